@@ -16,7 +16,7 @@ from __future__ import annotations
 import os
 import sys
 from pathlib import Path
-from typing import Dict
+from typing import Dict, Sequence
 
 import pya
 
@@ -29,6 +29,16 @@ from rjoin_klayout.program import ProgramError, staleness  # noqa: E402
 from rjoin_klayout.report import Report  # noqa: E402
 
 SWITCH = {"0": False, "1": True}
+WORDS = ("file", "left", "right", "relation", "space", "output", "merged", "mode", "others", "cell",
+         "version")
+
+
+def check_words(arguments: Sequence[str]) -> None:
+    """Refuses the name of a variable that says nothing here, by the command line of KLayout."""
+    for option, variable in zip(arguments, arguments[1:]):
+        name = variable.partition("=")[0]
+        if option == "-rd" and name not in WORDS:
+            raise JoinError(f"-rd {name} is unknown; there are {', '.join(WORDS)}")
 
 
 def word(given: Dict[str, object], name: str, default: str | None = None) -> str:
@@ -84,6 +94,7 @@ def request_of(given: Dict[str, object]) -> Request:
 
 def join(given: Dict[str, object]) -> None:
     """Joins as the variables of the command line say."""
+    check_words(pya.Application.instance().arguments())
     if "version" in given:
         print(f"rjoin for KLayout {VERSION}")
         return

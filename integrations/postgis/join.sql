@@ -1,10 +1,10 @@
 -- Joins two tables by rjoin in one transaction, which it leaves open. `rjoin-postgis` runs it by psql, in an empty
 -- folder, with the variables left, right (tables), left_id, right_id, left_geometry, right_geometry (columns or empty),
--- left_columns, right_columns (JSON lists of columns to carry), others (error, envelope, skip), rings (valid,
--- even-odd), decimals (0 to 6, or empty), into and skipped (new tables), command (of rjoin: join, near, nearest),
--- distance and distance_decimals (a number and its decimals, 0 for none), and with RJOIN, RJOIN_COMMAND,
--- RJOIN_CONDITION (a word), RJOIN_MORE (words without blanks) and RJOIN_WORKERS in the environment. At the end it
--- writes a line `ready`.
+-- left_columns, right_columns (JSON lists of columns to carry), left_prefix, right_prefix (of their names in the new
+-- table), others (error, envelope, skip), rings (valid, even-odd), decimals (0 to 6, or empty), into and skipped (new
+-- tables), command (of rjoin: join, near, nearest), distance and distance_decimals (a number and its decimals, 0 for
+-- none), and with RJOIN, RJOIN_COMMAND, RJOIN_CONDITION (a word), RJOIN_MORE (words without blanks) and RJOIN_WORKERS
+-- in the environment. At the end it writes a line `ready`.
 \set ON_ERROR_STOP on
 \set VERBOSITY terse
 \set SHOW_CONTEXT never
@@ -47,14 +47,20 @@ begin
     return found[1];
 end $$;
 
+-- The columns of a type: the one that is named, or else all.
+create function pg_temp.rjoin_columns_of(source regclass, kind regtype, named text) returns name[] language sql as $$
+    select array_agg(attname) from pg_attribute
+    where attrelid = source and attnum > 0 and not attisdropped and atttypid = kind and named in ('', attname) $$;
+
 -- The column that is named, or else the only one of type geometry.
 create function pg_temp.rjoin_geometry(source regclass, named text) returns name language plpgsql as $$
-declare found name[];
+declare
+    found name[] := pg_temp.rjoin_columns_of(source, 'geometry', named);
+    others name[] := pg_temp.rjoin_columns_of(source, to_regtype('geography'), named);
 begin
-    select array_agg(attname) into found from pg_attribute
-    where attrelid = source and attnum > 0 and not attisdropped and atttypid = 'geometry'::regtype
-        and named in ('', attname);
-    if found is null and named <> '' then
+    if found is null and others is not null then
+        raise exception '%: the column % is of type geography: cast it to geometry in a view', source, others[1];
+    elsif found is null and named <> '' then
         raise exception '% has no column % of type geometry', source, named;
     elsif cardinality(found) is distinct from 1 then
         raise exception '% has % columns of type geometry: name one', source, coalesce(cardinality(found), 0);
@@ -75,13 +81,58 @@ begin
     return names;
 end $$;
 
--- The names that columns of a side are carried by, each behind a comma; and these columns of a table, by these names.
-create function pg_temp.rjoin_carried(columns text[], side text) returns text language sql as $$
-    select coalesce(string_agg(format(', %I', side || name), '' order by place), '')
+-- The columns to carry, each in a form of its name (1), its name in the new table (2) and its number (3).
+create function pg_temp.rjoin_listed(columns text[], form text, prefix text) returns text language sql as $$
+    select coalesce(string_agg(format(form, name, prefix || name, place), '' order by place), '')
     from unnest(columns) with ordinality listed (name, place) $$;
-create function pg_temp.rjoin_carrying(columns text[], side text, alias text) returns text language sql as $$
-    select coalesce(string_agg(format(', %I.%I as %I', alias, name, side || name), '' order by place), '')
-    from unnest(columns) with ordinality listed (name, place) $$;
+
+-- Refuses names of columns of the new table that are too long or stand twice.
+create function pg_temp.rjoin_check_names(names text[]) returns void language plpgsql as $$
+declare
+    most integer := current_setting('max_identifier_length');
+    long text := (select name from unnest(names) name where octet_length(name) > most limit 1);
+    taken text := (select name from unnest(names) name group by name having count(*) > 1 limit 1);
+begin
+    if long is not null then
+        raise exception 'a column of the new table would have a name of more than % bytes: %', most, long;
+    elsif taken is not null then
+        raise exception 'two columns of the new table would have the name %: choose another %', taken,
+            '--left-prefix or --right-prefix';
+    end if;
+end $$;
+
+-- The geometry of a multiple one, or of a collection, that has one only, without those that are empty.
+create function pg_temp.rjoin_unpacked(shape geometry) returns geometry language plpgsql immutable as $$
+declare parts geometry[];
+begin
+    while ST_GeometryType(shape) like 'ST_Multi%' or ST_GeometryType(shape) = 'ST_GeometryCollection' loop
+        parts := array(
+            select part from generate_series(1, ST_NumGeometries(shape)) place, ST_GeometryN(shape, place) part
+            where not ST_IsEmpty(part) limit 2);
+        exit when cardinality(parts) <> 1;
+        shape := parts[1];
+    end loop;
+    return shape;
+end $$;
+
+-- The greatest coordinate at a number of decimals.
+create function pg_temp.rjoin_limit(decimals integer) returns bigint language sql immutable as $$
+    select 1000000000000 / (10 ^ decimals)::bigint $$;
+
+-- Why the coordinates of a geometry, in two dimensions and with these bounds, can't be read at any number of decimals;
+-- null if they can. Bounds are wrong where a number in their midst is none, but lengths are none then.
+create function pg_temp.rjoin_coordinate_fault(shape geometry, x1 double precision, y1 double precision,
+    x2 double precision, y2 double precision) returns text language sql immutable as $$
+    select case
+        when greatest(x2, y2) = 'NaN' then 'a coordinate is not a number'
+        when least(x1, y1) < -1e12 or greatest(x2, y2) > 1e12
+            then 'a coordinate is out of range: the limit is 1000000000000'
+        when ST_NPoints(shape) = 1 then null
+        when ST_Length(shape) + ST_Perimeter(shape) = 'NaN' then 'a coordinate is not a number'
+        when ST_GeometryType(shape) in ('ST_LineString', 'ST_MultiLineString', 'ST_Polygon', 'ST_MultiPolygon')
+            then null
+        when ST_AsText(shape) like '%NaN%' then 'a coordinate is not a number'
+    end $$;
 
 -- Whether a line is a segment along an axis: a line along an axis goes back on its way exactly if it isn't simple.
 create function pg_temp.rjoin_is_segment(line geometry) returns boolean language sql immutable as $$
@@ -187,7 +238,6 @@ end $$;
 -- it equals the number exactly where the decimal number is read back as it.
 create function pg_temp.rjoin_decimals(number double precision) returns integer language sql immutable as $$
     select case
-        when not number between -1e12 and 1e12 then 0  -- refused as out of range
         when round(number) = number then 0
         when round(number * 1e1) / 1e1 = number then 1
         when round(number * 1e2) / 1e2 = number then 2
@@ -242,53 +292,67 @@ begin
 end $$;
 
 -- Numbers the rows of a table into a temporary one, with id, bounds, number of decimals, the fault of those that aren't
--- read, `exact` of those that are, and the shape of those that are read and aren't boxes.
+-- read, `exact` of those that are, `has_box` of those whose bounds can be read, the shape of those that are read and
+-- aren't boxes, and the columns to carry as c1, c2, ..
 create function pg_temp.rjoin_read(source regclass, id name, geometry name, target name, decimals integer, rings text,
-    columns text[], side text) returns void language plpgsql as $$
+    columns text[]) returns void language plpgsql as $$
 begin
     execute format('create temporary table %1$I on commit drop as
-        select row_number() over () as n, id, srid, fault, fault is null as exact, x1, y1, x2, y2,
+        select row_number() over () as n, id, srid, fault, fault is null as exact, has_box, x1, y1, x2, y2,
             case when fault is null and not is_box then shape end as shape,
-            case when fault is null and not is_box then pg_temp.rjoin_decimals(shape)
+            case when not has_box then null
+                when fault is null and not is_box then pg_temp.rjoin_decimals(shape)
                 else greatest(pg_temp.rjoin_decimals(x1), pg_temp.rjoin_decimals(y1),
                               pg_temp.rjoin_decimals(x2), pg_temp.rjoin_decimals(y2)) end as decimals %7$s
         from (
-            select *, case when not is_box then pg_temp.rjoin_fault(shape, %5$L, %6$L) end as fault
+            select *, coalesce(coordinate_fault, case when not is_box then pg_temp.rjoin_fault(shape, %5$L, %6$L) end)
+                    as fault, x1 is not null and coordinate_fault is null as has_box
             from (
-                select id, shape, ST_SRID(shape) as srid, pg_temp.rjoin_is_box(shape) as is_box,
-                    ST_XMin(shape) as x1, ST_YMin(shape) as y1, ST_XMax(shape) as x2, ST_YMax(shape) as y2 %7$s
+                select *, coordinate_fault is null and pg_temp.rjoin_is_box(shape) as is_box
                 from (
-                    select t.%2$I as id, ST_Force2D(
-                        case when ST_NumGeometries(t.%3$I) = 1 then ST_GeometryN(t.%3$I, 1) else t.%3$I end) as shape
-                        %8$s
-                    from %4$s t
+                    select *, pg_temp.rjoin_coordinate_fault(shape, x1, y1, x2, y2) as coordinate_fault
+                    from (
+                        select *, ST_SRID(shape) as srid, ST_XMin(shape) as x1, ST_YMin(shape) as y1,
+                            ST_XMax(shape) as x2, ST_YMax(shape) as y2
+                        from (
+                            select id, ST_Force2D(case when ST_IsCollection(shape)
+                                then pg_temp.rjoin_unpacked(shape) else shape end) as shape %7$s
+                            from (
+                                select t.%2$I as id, case
+                                    when ST_NumGeometries(t.%3$I) = 1 then ST_GeometryN(t.%3$I, 1)
+                                    else t.%3$I end as shape %8$s
+                                from %4$s t
+                                offset 0
+                            ) one_part
+                            offset 0
+                        ) unpacked
+                        offset 0
+                    ) bounded
                     offset 0
-                ) one_part
+                ) in_range
                 offset 0
-            ) bounded
+            ) sorted
             offset 0
         ) judged', target, id, geometry, source, decimals, rings,
-        pg_temp.rjoin_carried(columns, side), pg_temp.rjoin_carrying(columns, side, 't'));
+        pg_temp.rjoin_listed(columns, ', c%3$s', ''), pg_temp.rjoin_listed(columns, ', t.%1$I as c%3$s', ''));
 end $$;
 
--- Ends the run at the first row that isn't read, or takes envelopes; the rows that keep a fault are listed.
-create function pg_temp.rjoin_judge(target name, source regclass, side text, others text) returns void
-language plpgsql as $$
+-- Ends the run at the first row that isn't read, or takes envelopes; the rows that keep a fault are left out.
+create function pg_temp.rjoin_judge(target name, source regclass, others text) returns void language plpgsql as $$
 declare bad record;
 begin
     if others = 'error' then
         execute format('select id::text, fault from %I where fault is not null order by n limit 1', target) into bad;
-        if bad.fault is not null then
+        if bad.fault like 'a coordinate%' then
+            raise exception '%, id %: %; choose --others skip', source, bad.id, bad.fault;
+        elsif bad.fault is not null then
             raise exception '%, id %: not points, lines or polygons that rjoin reads, but %; %',
                 source, bad.id, bad.fault, 'choose --others envelope or --others skip'
                 || case when bad.fault like 'an invalid%' then ', or --rings even-odd' else '' end;
         end if;
-        return;
+    elsif others = 'envelope' then
+        execute format('update %I set fault = null where fault is not null and has_box', target);
     end if;
-    if others = 'envelope' then
-        execute format('update %I set fault = null where fault is not null and x1 is not null', target);
-    end if;
-    execute format('insert into rjoin_skipped select %L, id::text, fault from %I where fault is not null', side, target);
 end $$;
 
 -- The id of the first row that takes part and fits a condition, or null.
@@ -300,6 +364,20 @@ begin
     return found;
 end $$;
 
+-- The greatest coordinate, without its sign, of the rows that take part.
+create function pg_temp.rjoin_reach() returns double precision language plpgsql as $$
+begin
+    return (
+        select greatest(max(abs(x1)), max(abs(x2)), max(abs(y1)), max(abs(y2)))
+        from (select x1, y1, x2, y2, fault from rjoin_left
+              union all select x1, y1, x2, y2, fault from rjoin_right) bounds
+        where fault is null);
+end $$;
+
+-- The most decimals at which a coordinate is in range.
+create function pg_temp.rjoin_most(reach double precision) returns integer language sql as $$
+    select max(decimals) from generate_series(0, 6) decimals where reach <= pg_temp.rjoin_limit(decimals) $$;
+
 -- The fewest decimals that write all coordinates of a layer exactly; ends the run where 6 don't.
 create function pg_temp.rjoin_fewest(target name, source regclass) returns integer language plpgsql as $$
 declare
@@ -307,25 +385,11 @@ declare
     bad text := pg_temp.rjoin_first(target, 'decimals > 6');
 begin
     if bad is not null then
-        raise exception '%, id %: a coordinate isn''t written exactly by 6 decimals; give --decimals to round',
-            source, bad;
+        raise exception '%, id %: a coordinate isn''t written exactly by 6 decimals; %, at most %, to round',
+            source, bad, 'give --decimals', pg_temp.rjoin_most(pg_temp.rjoin_reach());
     end if;
     execute format('select coalesce(max(decimals), 0) from %I where fault is null', target) into most;
     return most;
-end $$;
-
--- The decimals of a join by distance: as many as the range of 10^12 units allows, but no fewer than given.
-create function pg_temp.rjoin_finest(fewest integer, distance double precision) returns integer language plpgsql
-as $$
-begin
-    return (
-        select greatest(fewest, max(decimals)) from (
-            select greatest(max(abs(x1)), max(abs(x2)), max(abs(y1)), max(abs(y2)), distance) as reach
-            from (select x1, y1, x2, y2, fault from rjoin_left
-                  union all select x1, y1, x2, y2, fault from rjoin_right) bounds
-            where fault is null
-        ) reached, generate_series(0, 6) decimals
-        where decimals = 0 or reach * 10 ^ decimals <= 1e12);
 end $$;
 
 -- Ends the run where two rows that take part have different reference systems.
@@ -341,20 +405,38 @@ begin
     end if;
 end $$;
 
--- Makes the view of a layer file. Warns how many rows rjoin will round, and ends the run at a coordinate out of its
--- range of 10^12 units of the last decimal.
-create function pg_temp.rjoin_write(target name, source regclass, scale integer, file name) returns void
-language plpgsql as $$
-declare
-    reach constant bigint := 1000000000000 / (10 ^ scale)::bigint;
-    rounded bigint;
-    bad text := pg_temp.rjoin_first(target,
-        format('not (least(x1, y1) >= -%1$s and greatest(x2, y2) <= %1$s)', reach));
+-- Whether bounds are out of range at a number of decimals, and how this is told.
+create function pg_temp.rjoin_is_beyond(x1 double precision, y1 double precision, x2 double precision,
+    y2 double precision, decimals integer) returns boolean language sql immutable as $$
+    select not (least(x1, y1) >= -pg_temp.rjoin_limit(decimals) and greatest(x2, y2) <= pg_temp.rjoin_limit(decimals))
+    $$;
+create function pg_temp.rjoin_range_fault(decimals integer) returns text language sql immutable as $$
+    select format('a coordinate is out of range: the limit at %s decimals is %s', decimals,
+                  pg_temp.rjoin_limit(decimals)) $$;
+
+-- Ends the run at a row out of range at these decimals.
+create function pg_temp.rjoin_check_range(target name, source regclass, scale integer) returns void language plpgsql
+as $$
+declare bad text := pg_temp.rjoin_first(target, format('pg_temp.rjoin_is_beyond(x1, y1, x2, y2, %s)', scale));
 begin
     if bad is not null then
-        raise exception '%, id %: a coordinate is out of range: the limit at % decimals is %',
-            source, bad, scale, reach;
+        raise exception '%, id %: %; give --decimals, at most %, or --others skip', source, bad,
+            pg_temp.rjoin_range_fault(scale), pg_temp.rjoin_most(pg_temp.rjoin_reach());
     end if;
+end $$;
+
+-- Leaves out the rows that are out of range at some decimals, an expression over their columns.
+create function pg_temp.rjoin_leave_out(target name, scale text) returns void language plpgsql as $$
+begin
+    execute format('update %1$I set fault = pg_temp.rjoin_range_fault(%2$s)
+        where fault is null and pg_temp.rjoin_is_beyond(x1, y1, x2, y2, %2$s)', target, scale);
+end $$;
+
+-- Makes the view of a layer file, and warns how many rows rjoin will round.
+create function pg_temp.rjoin_write(target name, source regclass, scale integer, file name) returns void
+language plpgsql as $$
+declare rounded bigint;
+begin
     execute format('select count(*) from %I where fault is null and decimals > $1', target) into rounded using scale;
     if rounded > 0 then
         raise warning '%: rows with coordinates rounded to % decimals: %', source, scale, rounded;
@@ -365,23 +447,52 @@ begin
         from %3$I where fault is null order by n', file, scale, target);
 end $$;
 
+-- The ids of the rows with these numbers in the layer file, as a JSON list.
+create function pg_temp.rjoin_ids(target name, rows bigint[]) returns json language plpgsql as $$
+declare ids json;
+begin
+    execute format('select json_agg(id::text order by place)
+        from (select id, row_number() over (order by n) as place from %I where fault is null) read
+        where place = any ($1)', target) into ids using rows;
+    return ids;
+end $$;
+
 -- A name that is yet to be created, with or without its schema, as SQL writes it.
-create function pg_temp.rjoin_new_name(word text) returns text language sql as $$
-    select string_agg(quote_ident(part), '.') from unnest(parse_ident(word)) part $$;
+create function pg_temp.rjoin_new_name(word text, option text) returns text language plpgsql as $$
+declare
+    most integer := current_setting('max_identifier_length');
+    parts text[] := parse_ident(word);
+    long text := (select part from unnest(parts) part where octet_length(part) > most limit 1);
+begin
+    if long is not null then
+        raise exception '%: a name has more than % bytes: %', option, most, long;
+    end if;
+    return (select string_agg(quote_ident(part), '.') from unnest(parts) part);
+end $$;
+
+-- Creates a table. Its name may also be taken by a run that ends while this one waits for it.
+create function pg_temp.rjoin_create(name text, definition text) returns void language plpgsql as $$
+begin
+    execute format('create table %s %s', name, definition);
+exception when duplicate_table or duplicate_object or unique_violation then
+    raise exception '% already exists', name;
+end $$;
+
+-- The name of a table with its schema: without it a temporary table of its name would go first.
+create function pg_temp.rjoin_whole_name(source regclass) returns text language sql as $$
+    select format('%I.%I', nspname, relname)
+    from pg_class join pg_namespace on pg_namespace.oid = relnamespace where pg_class.oid = source $$;
 
 select :'left'::regclass as left, :'right'::regclass as right,
-    pg_temp.rjoin_new_name(:'into') as into, pg_temp.rjoin_new_name(:'skipped') as skipped \gset
-select pg_temp.rjoin_id(:'left', :'left_id') as left_id, pg_temp.rjoin_id(:'right', :'right_id') as right_id,
+    :'others' <> 'error' as lists, :'others' = 'envelope' as envelopes,
+    :'command' <> 'join' as by_distance, :'command' = 'nearest' as by_nearest \gset
+select pg_temp.rjoin_new_name(:'into', '--into') as into,
+    case when :'lists' then pg_temp.rjoin_new_name(:'skipped', '--skipped') end as skipped,
+    pg_temp.rjoin_id(:'left', :'left_id') as left_id, pg_temp.rjoin_id(:'right', :'right_id') as right_id,
     pg_temp.rjoin_geometry(:'left', :'left_geometry') as left_geometry,
     pg_temp.rjoin_geometry(:'right', :'right_geometry') as right_geometry,
     pg_temp.rjoin_columns(:'left', :'left_columns') as left_columns,
-    pg_temp.rjoin_columns(:'right', :'right_columns') as right_columns,
-    :'others' <> 'error' as lists, :'others' = 'envelope' as envelopes,
-    :'command' <> 'join' as by_distance, :'command' = 'nearest' as by_nearest \gset
-select pg_temp.rjoin_carrying(:'left_columns', 'left_', 'l') || pg_temp.rjoin_carrying(:'right_columns', 'right_', 'r')
-    as carrying,
-    pg_temp.rjoin_carried(:'left_columns', 'left_') || pg_temp.rjoin_carried(:'right_columns', 'right_') as carried
-\gset
+    pg_temp.rjoin_columns(:'right', :'right_columns') as right_columns \gset
 \if :by_distance
     \set measure distance
     \set measure_type 'double precision'
@@ -390,43 +501,63 @@ select pg_temp.rjoin_carrying(:'left_columns', 'left_', 'l') || pg_temp.rjoin_ca
     \set measure_type character(9)
 \endif
 \if :by_nearest
-    \set order 'left_n, distance, right_n'
+    \set order 'l.n, p.measure, r.n'
 \else
-    \set order 'left_n, right_n'
+    \set order 'l.n, r.n'
 \endif
+select pg_temp.rjoin_check_names(array['left_id', 'right_id', :'measure']
+    || case when :'envelopes' then array['exact'] end
+    || array(select :'left_prefix' || name from unnest(:'left_columns'::text[]) name)
+    || array(select :'right_prefix' || name from unnest(:'right_columns'::text[]) name)) \g /dev/null
 
 -- The results first: a name that is taken ends the run before anything is read.
-create table :into as
-    select l.:"left_id" as left_id, r.:"right_id" as right_id :carrying, null:::measure_type as :measure
-    from :left l, :right r with no data;
--- With its schema, since a temporary table of its name would go first.
-select format('%I.%I', nspname, relname) as pairs
-from pg_class join pg_namespace on pg_namespace.oid = relnamespace where pg_class.oid = :'into'::regclass \gset
+select pg_temp.rjoin_create(:'into', format(
+    'as select l.%I as left_id, r.%I as right_id %s %s, null::%s as %I from %s l, %s r with no data',
+    :'left_id', :'right_id', pg_temp.rjoin_listed(:'left_columns', ', l.%1$I as %2$I', :'left_prefix'),
+    pg_temp.rjoin_listed(:'right_columns', ', r.%1$I as %2$I', :'right_prefix'),
+    :'measure_type', :'measure', :'left', :'right')) \g /dev/null
+select pg_temp.rjoin_whole_name(:'into') as pairs \gset
 \if :envelopes
     alter table :pairs add column exact boolean not null;
-    \set exact ', exact'
+    \set exact_column ', exact'
+    \set exact ', l.exact and r.exact'
 \else
+    \set exact_column ''
     \set exact ''
 \endif
 \if :lists
-    create table :skipped (side text not null, id text, reason text not null);
-    create temporary view rjoin_skipped as select * from :skipped;
+    select pg_temp.rjoin_create(:'skipped', '(side text not null, id text, reason text not null)') \g /dev/null
+    select pg_temp.rjoin_whole_name(:'skipped') as left_out \gset
 \endif
 
-select pg_temp.rjoin_read(:'left', :'left_id', :'left_geometry', 'rjoin_left', given, :'rings',
-        :'left_columns', 'left_'),
-    pg_temp.rjoin_read(:'right', :'right_id', :'right_geometry', 'rjoin_right', given, :'rings',
-        :'right_columns', 'right_')
+select pg_temp.rjoin_read(:'left', :'left_id', :'left_geometry', 'rjoin_left', given, :'rings', :'left_columns'),
+    pg_temp.rjoin_read(:'right', :'right_id', :'right_geometry', 'rjoin_right', given, :'rings', :'right_columns')
 from (select nullif(:'decimals', '')::integer as given) option \g /dev/null
-select pg_temp.rjoin_judge('rjoin_left', :'left', 'left', :'others'),
-    pg_temp.rjoin_judge('rjoin_right', :'right', 'right', :'others') \g /dev/null
+select pg_temp.rjoin_judge('rjoin_left', :'left', :'others'),
+    pg_temp.rjoin_judge('rjoin_right', :'right', :'others') \g /dev/null
 select pg_temp.rjoin_check_system() \g /dev/null
 
+\if :lists
+    -- Without given decimals, those first that no number of decimals suits: they would decide it for all rows.
+    select pg_temp.rjoin_leave_out('rjoin_left', 'least(decimals, 6)'),
+        pg_temp.rjoin_leave_out('rjoin_right', 'least(decimals, 6)') where :'decimals' = '' \g /dev/null
+\endif
 select case when :'decimals' <> '' then nullif(:'decimals', '')::integer
     else greatest(pg_temp.rjoin_fewest('rjoin_left', :'left'), pg_temp.rjoin_fewest('rjoin_right', :'right'))
     end as decimals, :'decimals' = '' and :'by_distance' as is_finer \gset
+-- By distance there are as many decimals as the range allows, but no fewer.
 \if :is_finer
-    select pg_temp.rjoin_finest(greatest(:decimals, :distance_decimals), :distance) as decimals \gset
+    select greatest(:decimals, :distance_decimals, pg_temp.rjoin_most(greatest(pg_temp.rjoin_reach(), :distance)))
+        as decimals \gset
+\endif
+\if :lists
+    select pg_temp.rjoin_leave_out('rjoin_left', :'decimals'), pg_temp.rjoin_leave_out('rjoin_right', :'decimals')
+    \g /dev/null
+    insert into :left_out select 'left', id::text, fault from rjoin_left where fault is not null order by n;
+    insert into :left_out select 'right', id::text, fault from rjoin_right where fault is not null order by n;
+\else
+    select pg_temp.rjoin_check_range('rjoin_left', :'left', :decimals),
+        pg_temp.rjoin_check_range('rjoin_right', :'right', :decimals) \g /dev/null
 \endif
 select pg_temp.rjoin_write('rjoin_left', :'left', :decimals, 'rjoin_left_file'),
     pg_temp.rjoin_write('rjoin_right', :'right', :decimals, 'rjoin_right_file') \g /dev/null
@@ -438,11 +569,13 @@ select '--scale ' || :decimals || ' --round' || case
         or exists (select from rjoin_right where shape is not null)
     then ' --geometry any --rings even-odd' else '' end as format \gset
 \setenv RJOIN_FORMAT :format
-create temporary table rjoin_pairs (left_n bigint, right_n bigint, :measure :measure_type) on commit drop;
+create temporary table rjoin_pairs (left_n bigint, right_n bigint, measure :measure_type) on commit drop;
 \copy rjoin_pairs from program 'exec "$RJOIN" "$RJOIN_COMMAND" left.csv right.csv $RJOIN_FORMAT "$RJOIN_CONDITION" $RJOIN_MORE --workers "$RJOIN_WORKERS"' csv header
-create temporary view rjoin_named_pairs as
-    select left_n, right_n, l.id as left_id, r.id as right_id :carried, :measure, l.exact and r.exact as exact
-    from rjoin_pairs p join rjoin_left l on l.n = left_n join rjoin_right r on r.n = right_n;
-insert into :pairs (left_id, right_id :carried, :measure :exact)
-select left_id, right_id :carried, :measure :exact from rjoin_named_pairs order by :order;
+select pg_temp.rjoin_listed(:'left_columns', ', %2$I', :'left_prefix')
+        || pg_temp.rjoin_listed(:'right_columns', ', %2$I', :'right_prefix') as carried,
+    pg_temp.rjoin_listed(:'left_columns', ', l.c%3$s', '') || pg_temp.rjoin_listed(:'right_columns', ', r.c%3$s', '')
+        as carrying \gset
+insert into :pairs (left_id, right_id :carried, :measure :exact_column)
+select l.id, r.id :carrying, p.measure :exact
+from rjoin_pairs p join rjoin_left l on l.n = left_n join rjoin_right r on r.n = right_n order by :order;
 \echo ready

@@ -146,7 +146,23 @@ def metal() -> pya.Layout:
     angled = top.shapes(layout.layer(4, 0))
     angled.insert(pya.Box(0, 0, 100, 20))
     angled.insert(pya.Box(0, 0, 20, 100))
+    add_odd_metal(layout, top)
     return layout
+
+
+def add_odd_metal(layout: pya.Layout, top: pya.Cell) -> None:
+    """A bow-tie whose own area is 0, with a bar on its left side and a via across both; a box that
+    is smaller than a unit where it is placed; and a triangle of half a square unit."""
+    shapes = top.shapes(layout.layer(5, 0))
+    corners = ((0, 0), (100, 100), (100, 0), (0, 100))
+    shapes.insert(pya.Polygon([pya.Point(x, y) for x, y in corners]))
+    shapes.insert(pya.Box(-10, 40, 40, 60))
+    top.shapes(layout.layer(6, 0)).insert(pya.Box(-5, 45, 42, 55))
+    small = layout.create_cell("SMALL")
+    small.shapes(layout.layer(7, 0)).insert(pya.Box(0, 0, 10, 10))
+    top.insert(pya.DCellInstArray(small.cell_index(), pya.DCplxTrans(0.01, 0, False, 0.5, 0.5)))
+    half = [pya.Point(0, 0), pya.Point(1, 0), pya.Point(0, 1)]
+    top.shapes(layout.layer(8, 0)).insert(pya.Polygon(half))
 
 
 def spaced() -> pya.Layout:
@@ -169,6 +185,34 @@ def spaced() -> pya.Layout:
     for x, y in ((0, 0), (50, 0), (0, 50), (80, 90), (120, 140)):  # the last is 30 and 40 away
         corners.insert(pya.Box(x, y, x + 10, y + 10))
     return layout
+
+
+def nested() -> pya.Layout:
+    """A cell with two boxes 30 units apart, within a turned one."""
+    layout = pya.Layout()
+    top, middle, cell = (layout.create_cell(name) for name in ("TOP", "MIDDLE", "CELL"))
+    for left in (0, 50):
+        cell.shapes(layout.layer(1, 0)).insert(pya.Box(left, 0, left + 20, 20))
+    middle.insert(pya.CellInstArray(cell.cell_index(), pya.Trans(10, 20)))
+    top.insert(pya.CellInstArray(middle.cell_index(), pya.Trans(1, False, 100, 0)))
+    return layout
+
+
+def ruled(dbu: str, path: Path) -> pya.Layout:
+    """Boxes and triangles 50 units apart, and a box and a triangle that are 49 units from a box,
+    as they are read from a file."""
+    layout = pya.Layout()
+    layout.dbu = float(dbu)
+    top = layout.create_cell("TOP")
+    shapes, triangles = top.shapes(layout.layer(1, 0)), top.shapes(layout.layer(2, 0))
+    for left in (0, 70, 139):
+        shapes.insert(pya.Box(left, 0, left + 20, 20))
+    for corners in (((209, 0), (209, 20), (229, 0)), ((0, 69), (20, 69), (0, 89))):
+        triangles.insert(pya.Polygon([pya.Point(x, y) for x, y in corners]))
+    layout.write(str(path))
+    read = pya.Layout()
+    read.read(str(path))
+    return read
 
 
 def town() -> pya.Layout:
@@ -199,10 +243,11 @@ def regions_hold(relation: str, one: pya.Region, other: pya.Region) -> bool:
     """Whether two areas stand in a relation."""
     meet, share = (not answer.is_empty() for answer in (
         one.interacting(other), one.overlapping(other)))
-    is_inside, has_inside = (not answer.is_empty() for answer in (
-        one.inside(other), other.inside(one)))
+    is_inside, covers = (not answer.is_empty() for answer in (
+        one.inside(other), one.covering(other)))
     return {"intersects": meet, "touches": meet and not share, "within": is_inside,
-            "covers": has_inside, "overlaps": share and not is_inside and not has_inside}[relation]
+            "covers": covers, "T********": share,
+            "overlaps": share and not is_inside and not covers}[relation]
 
 
 def areas(layout: pya.Layout, name: str) -> List[pya.Polygon]:
@@ -248,8 +293,8 @@ def asked(layout: pya.Layout, request: Dict[str, Any]) -> List[Tuple[str, str]]:
 
 def asked_of_spacing(layout: pya.Layout, request: Dict[str, Any]) -> List[Tuple[str, str]]:
     """The pairs that KLayout's separation check finds too close, of shapes that share no point; of
-    a layer with itself each pair once."""
-    limit = round(float(request["space"]) / layout.dbu)
+    a layer with itself each pair once. The spacing is rounded as KLayout's DRC rounds it."""
+    limit = math.floor(0.5 + float(request["space"]) / layout.dbu)
     left, right = (areas(layout, request[side]) for side in ("left", "right"))
     is_same = request["left"] == request["right"]
     found = []
@@ -284,8 +329,10 @@ def answer(layout: pya.Layout, request: Dict[str, Any], path: Path) -> Dict[str,
 def main(folder: Path) -> None:
     """Works the requests off."""
     layouts = {"chip": chip(), "others": others(), "town": town(), "metal": metal(),
-               "angled": angled(), "folded": folded(), "spaced": spaced()}
+               "angled": angled(), "folded": folded(), "spaced": spaced(), "nested": nested()}
     requests = json.loads((folder / "requests").read_text(encoding="utf-8"))
+    for name in {request["layout"] for request in requests if request["layout"] not in layouts}:
+        layouts[name] = ruled(name.rpartition(".")[0], folder / name)
     answers = [answer(layouts[request["layout"]], request, folder / f"{number}.lyrdb")
                for number, request in enumerate(requests)]
     (folder / "answers").write_text(json.dumps(answers), encoding="utf-8")

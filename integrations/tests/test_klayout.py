@@ -8,6 +8,7 @@ import shutil
 import subprocess
 import xml.etree.ElementTree as ElementTree
 from collections import Counter
+from decimal import Decimal
 from pathlib import Path
 from typing import Any, Callable, Dict, List, Tuple
 
@@ -28,7 +29,7 @@ COMPARED = [("chip", "1/0", "2/0", relation)
     ("town", "4/0", "1/0", "contains_properly")]
 
 POINTS_ALONE = "FF2F01212"
-ANGLED = ("intersects", "touches", "within", "covers", "overlaps")
+ANGLED = ("intersects", "touches", "within", "covers", "overlaps", "T********")
 
 FAULTS = {
     "7/0 overlaps 2/0": "the layout has no layer '7/0'",
@@ -43,16 +44,25 @@ FAULTS = {
 METAL = [{"layout": "metal", "left": left, "right": right, "relation": relation, "others": others,
           "merged": merged} for merged in (False, True) for left, right, relation, others in (
               ("2/0", "1/0", "within", "error"), ("1/0", "1/0", "equals", "error"),
-              ("4/0", "2/0", "intersects", "error"))]
+              ("4/0", "2/0", "intersects", "error"), ("6/0", "5/0", "within", "error"),
+              ("7/0", "7/0", "equals", "error"), ("8/0", "8/0", "equals", "error"))]
 
 
 SPACED: List[Tuple[str, str, str, Dict[str, str]]] = [
     ("1/0", "2/0", "0.05", {}), ("1/0", "2/0", "0.051", {}), ("1/0", "1/0", "0.05", {}),
     ("4/0", "4/0", "0.05", {}), ("4/0", "4/0", "0.051", {}), ("3/0", "3/0", "0.04", {}),
+    ("4/0", "4/0", "0.0504", {}), ("4/0", "4/0", "0.0505", {}),
     ("3/0", "3/0", "0.04", {"mode": "cell"})]
 SPACES: List[Dict[str, Any]] = [
     {"layout": "spaced", "left": left, "right": right, "space": space, "asked": True, **more}
     for left, right, space, more in SPACED]
+
+# Database units that files of one of the two formats hold with an error.
+UNITS = ("0.001", "0.0005", "0.0001", "0.00025", "0.002")
+FORMATS = ("gds", "oas")
+RULED = [{"layout": f"{unit}.{form}", "left": "1/0", "right": right,
+          "space": f"{50 * Decimal(unit):f}"}
+         for unit in UNITS for form in FORMATS for right in ("1/0", "2/0")]
 
 
 def klayout_run(words: List[str], variables: Dict[str, str], **environment: str
@@ -97,10 +107,15 @@ def joined(klayout: Any, town: Path, tmp_path_factory: pytest.TempPathFactory) -
     requests += [{"layout": "others", "left": "1/0", "right": right, "relation": "contains",
                   "others": others} for right in ("2/0", "3/0")
                  for others in ("error", "skip", "envelope")]
-    requests += METAL + SPACES
+    requests += METAL + SPACES + RULED
     requests += [{"layout": "angled", "left": "1/0", "right": "2/0", "space": "0.3", "asked": True},
                  {"layout": "metal", "left": "1/0", "right": "2/0", "relation": "contains",
-                  "mode": "cell"}]
+                  "mode": "cell"},
+                 {"layout": "spaced", "left": "1/0", "right": "2/0", "space": "0.0004"},
+                 {"layout": "nested", "left": "1/0", "right": "1/0", "space": "0.04",
+                  "mode": "cell"},
+                 {"layout": "others", "left": "3/0", "right": "1/0", "relation": "within",
+                  "others": "envelope", "merged": True}]
     for words in FAULTS:
         left, relation, right, *others = words.split()
         requests.append({"layout": "chip", "left": left, "right": right, "relation": relation,
@@ -219,6 +234,29 @@ def test_other_shapes(joined: Dict[str, Any]) -> None:
     assert "exact:" not in Path(skipped["database"]).read_text(encoding="utf-8")
 
 
+def values_of(answer: Dict[str, Any]) -> List[List[str]]:
+    """The values of each item."""
+    root = ElementTree.parse(answer["database"]).getroot()
+    return [[value.text or "" for value in item.iter("value")] for item in root.iter("item")]
+
+
+def test_bounding_boxes_beside_merged_shapes(joined: Dict[str, Any]) -> None:
+    """The box of a path, which is 10 units longer at both ends, is no shape, also on the left."""
+    flags = {values[0]: values[-1]
+             for values in values_of(joined["others 3/0 within 1/0 envelope merged"])}
+    assert flags == {"box: (0,0.047;0.09,0.073)": "text: 'exact: false'",
+                     "box: (0.02,0.02;0.03,0.03)": "text: 'exact: true'"}
+
+
+def test_the_cell_of_each_shape(joined: Dict[str, Any]) -> None:
+    """Of two placements; and in each cell by itself where that lies in the top cell."""
+    between = [values[2:4] for values in values_of(joined["spaced 3/0 <0.04 3/0 error"])
+               if values[0] == "box: (0.05,0;0.07,0.02)" or values[1] == "box: (0.05,0;0.07,0.02)"]
+    assert ["text: 'left: CELL r0 *1 0,0'", "text: 'right: CELL r0 *1 100,0'"] in between
+    root = ElementTree.parse(joined["nested 1/0 <0.04 1/0 error cell"]["database"]).getroot()
+    assert root.findtext("cells/cell[name='CELL']/references/ref/trans") == "r90 *1 0.08,0.01"
+
+
 def test_areas_that_are_cut_up(joined: Dict[str, Any]) -> None:
     """A via that lies across two pieces is within none, and within their union."""
     drawn, merged = (pairs_of(joined[f"metal 2/0 within 1/0 error{more}"])
@@ -234,6 +272,18 @@ def test_areas_that_are_cut_up(joined: Dict[str, Any]) -> None:
     angle = joined[f"{words} error merged"]
     assert pairs_of(angle) == Counter([((0.0, 0.0, 0.1, 0.1), (0.01, 0.01, 0.03, 0.03))])
     assert "left: TOP merged" in Path(angle["database"]).read_text(encoding="utf-8")
+
+
+def test_shapes_of_little_area(joined: Dict[str, Any]) -> None:
+    """A bow-tie whose sides count with opposite signs is merged like any area; one that is smaller
+    than a unit where it is placed stays as it is drawn; and half a square unit is an area."""
+    assert not pairs_of(joined["metal 6/0 within 5/0 error"])
+    assert pairs_of(joined["metal 6/0 within 5/0 error merged"]) == Counter(
+        [((-0.005, 0.045, 0.042, 0.055), (-0.01, 0.0, 0.05, 0.1))])
+    for more in ("", " merged"):
+        for layer, shape in (("7/0", (0.5, 0.5, 0.5, 0.5)), ("8/0", (0.0, 0.0, 0.001, 0.001))):
+            assert pairs_of(joined[f"metal {layer} equals {layer} error{more}"]) == Counter(
+                [(shape, shape)])
 
 
 @pytest.mark.parametrize("request_", SPACES, ids=key_of)
@@ -255,8 +305,9 @@ def test_spacing_is_told(joined: Dict[str, Any]) -> None:
     assert pairs_of(joined["spaced 4/0 <0.05 4/0 error"]).total() == 2
     wider = Path(joined["spaced 4/0 <0.051 4/0 error"]["database"]).read_text(encoding="utf-8")
     assert wider.count("distance: 0.05 um") == 1 and wider.count("distance: 0.04 um") == 2
-    assert "left out of layer 1/0" in Path(
-        joined["spaced 1/0 <0.05 1/0 error"]["database"]).read_text(encoding="utf-8")
+    texts = Path(joined["spaced 1/0 <0.05 1/0 error"]["database"])
+    assert len(items(texts)["'left out of layer 1/0'.'a text'"]) == 1
+    assert "layer 1/0: 1 shapes left out" in texts.read_text(encoding="utf-8")
     by_cell = ElementTree.parse(joined["spaced 3/0 <0.04 3/0 error cell"]["database"]).getroot()
     assert [item.findtext("cell") for item in by_cell.iter("item")] == ["CELL"]
     place = by_cell.find("cells/cell[name='CELL']/references/ref")
@@ -264,6 +315,27 @@ def test_spacing_is_told(joined: Dict[str, Any]) -> None:
     assert place.findtext("trans") == "r0 *1 0,0"
     assert by_cell.findtext("categories/category/description") == (
         "shapes that share no point and are closer than 0.04 um")
+
+
+@pytest.mark.parametrize("form", FORMATS)
+@pytest.mark.parametrize("unit", UNITS)
+def test_spacing_at_the_rule(joined: Dict[str, Any], unit: str, form: str) -> None:
+    """Shapes 50 units apart aren't closer than that, in whatever unit and file."""
+    def scaled(*numbers: int) -> Bounds:
+        return tuple(float(number * Decimal(unit)) for number in numbers)
+
+    space = f"{50 * Decimal(unit):f}"
+    for right, pair in (("1/0", (scaled(70, 0, 90, 20), scaled(139, 0, 159, 20))),
+                        ("2/0", (scaled(0, 0, 20, 20), scaled(0, 69, 20, 89)))):
+        answer = joined[f"{unit}.{form} 1/0 <{space} {right} error"]
+        assert pairs_of(answer) == Counter([pair])
+        text = Path(answer["database"]).read_text(encoding="utf-8")
+        assert f"distance: {(49 * Decimal(unit)).normalize():f} um" in text
+
+
+def test_spacing_is_at_least_half_a_unit(joined: Dict[str, Any]) -> None:
+    assert joined["spaced 1/0 <0.0004 2/0 error"]["error"] == (
+        "space must be at least half a database unit, which is 0.001 micrometres, not 0.0004")
 
 
 def test_spacing_of_other_shapes(joined: Dict[str, Any]) -> None:
@@ -319,6 +391,12 @@ def test_batch_mode_merges_and_tells_bounding_boxes(klayout: Any, town: Path, tm
     assert wrong.returncode == 1 and "merged must be 0 or 1" in wrong.stderr
     both = klayout(PACKAGE / "join.py", space="1", **words)
     assert both.returncode == 1 and "one of relation and space is needed" in both.stderr
+    unknown = klayout(PACKAGE / "join.py", realtion="within", **words)
+    assert unknown.returncode == 1 and "-rd realtion is unknown; there are file, " in unknown.stderr
+    for name, text in (("cell", "the layout has no cell NONE"),
+                       ("mode", "mode must be one of flat, cell")):
+        refused = klayout(PACKAGE / "join.py", **{**words, name: "NONE"})
+        assert refused.returncode == 1 and text in refused.stderr
     none = klayout(PACKAGE / "join.py", **{**words, "relation": "", "space": "-1"})
     assert none.returncode == 1 and "space must be a number of micrometres above 0" in none.stderr
 

@@ -4,6 +4,7 @@ from __future__ import annotations
 import csv
 import io
 import os
+import re
 import shutil
 import signal
 import subprocess
@@ -22,6 +23,7 @@ import layers as made_layers  # noqa: E402
 COMMAND = ROOT / "integrations/postgis/rjoin-postgis"
 VILLAGE = ROOT / "data/village"
 SERVER = ROOT / "recipes/with-postgres"
+NOISE = re.compile("ERROR:|WARNING:|psql:|at character")
 ANNOUNCE = 'echo "$PGHOST $PGUSER $PGDATABASE"; exec cat'
 
 
@@ -82,6 +84,7 @@ def refused(server: Dict[str, str], *words: str, **variables: str) -> str:
     assert ended.returncode == 1 and ended.stderr.startswith("rjoin-postgis: ")
     lines = ended.stderr.splitlines()
     assert len(lines) == 1 or len(lines) == 2 and lines[1].startswith("did you mean"), ended.stderr
+    assert not NOISE.search(ended.stderr), ended.stderr
     return ended.stderr
 
 
@@ -146,11 +149,14 @@ def test_decimals_of_distances(server: Dict[str, str]) -> None:
         "--distance 1.25 --decimals 1": "--distance has more than 1 decimals",
         "--relation within --distance 1": "--relation goes without --distance and --nearest",
         "--relation within --apart": "--apart needs --distance",
-        "--nearest 0": "not a whole number of 1 or more: '0'",
+        "--nearest 0": "not a whole number of 1 to 4294967295: '0'",
+        "--nearest 4294967296": "not a whole number of 1 to 4294967295: '4294967296'",
+        "--nearest " + 5000 * "9": "not a whole number of 1 to 4294967295: '999",
         "": "one of --relation, --distance and --nearest is needed"}
     for more, fault in wrong.items():
         ended = command(server, "origin", "around", "--into", "never", *more.split())
         assert ended.returncode == 2 and fault in ended.stderr, ended.stderr
+        assert len(ended.stderr.splitlines()) == 1 and ended.stderr.startswith("rjoin-postgis: ")
 
 
 def test_distances_of_other_shapes(server: Dict[str, str], village: str) -> None:
@@ -172,6 +178,26 @@ def test_columns_are_carried(server: Dict[str, str]) -> None:
     words = ["owned", "zones", "--relation", "overlaps", "--into", "never"]
     assert "owned has no column owner" in refused(server, *words, "--left-columns", "owner")
     assert "zones has no column x" in refused(server, *words, "--right-columns", "id", "x")
+
+
+def test_columns_of_any_name_are_carried(server: Dict[str, str]) -> None:
+    """Also by names that the script has for itself, and under names that are chosen."""
+    names = ["n", "id", "shape", "fault", "c1", "measure"]
+    psql(server, "create table named (id text primary key, n int, shape text, fault text, c1 text,"
+         " measure text, geom geometry)",
+         "insert into named select id, 7, 'shape', 'fault', 'c1', 'measure', geom from parcels")
+    words = ["named", "zones", "--relation", "overlaps", "--left-columns", *names, "--into"]
+    assert ("two columns of the new table would have the name left_id: choose another --left-prefix"
+            in refused(server, *words, "never"))
+    done(server, *words, "named_pairs", "--left-prefix", "", "--right-columns", "id",
+         "--right-prefix", "The zone's ")
+    own = psql(server, "select p.id, z.id, 7, p.id, 'shape', 'fault', 'c1', 'measure', z.id,"
+               " ST_Relate(p.geom, z.geom) from parcels p join zones z"
+               " on ST_Overlaps(p.geom, z.geom) order by 1, 2")
+    assert psql(server, "select * from named_pairs order by 1, 2") == own and own
+    found = psql(server, "select attname from pg_attribute where attnum > 0 and"
+                 " attrelid = 'named_pairs'::regclass order by attnum")
+    assert [name for name, in found] == ["left_id", "right_id", *names, "The zone's id", "matrix"]
 
 
 NEAREST = ("select l.id, n.id, n.distance from {left} l cross join lateral ("
@@ -232,6 +258,8 @@ SHAPES = {
     "POLYGON ((0.5 0, 1 0, 1 0, 1 1, 0 1, 0 0, 0.5 0))": None,
     "MULTIPOLYGON (((0 0, 1 0, 1 1, 0 1, 0 0)))": None,
     "GEOMETRYCOLLECTION (LINESTRING (0 0, 3 0))": None,
+    "GEOMETRYCOLLECTION (POINT EMPTY, LINESTRING (0 0, 5 0))": None,
+    "GEOMETRYCOLLECTION (MULTIPOINT EMPTY, GEOMETRYCOLLECTION (POINT (3 3)))": None,
     "LINESTRING (0 0, 2 0, 1 0)": None,
     "LINESTRING Z (0 0 7, 1 1 8)": None,
     "POLYGON ((0 0, 9 0, 9 9, 0 9, 0 0), (1 1, 2 1, 2 2, 1 2, 1 1))": None,
@@ -343,10 +371,24 @@ def test_rings_by_the_even_odd_rule(server: Dict[str, str]) -> None:
     assert ("bows, id bow: not points, lines or polygons that rjoin reads, but an invalid polygon: "
             "Self-intersection[2 2]; choose --others envelope or --others skip, or --rings even-odd"
             ) in refused(server, *words)
-    done(server, *words, "--rings", "even-odd")
+    assert ("rjoin-postgis: bows: even-odd rule for 1 row with improper rings: id bow\n"
+            in done(server, *words, "--rings", "even-odd"))
     assert psql(server, "select left_id from in_bows order by 1") == [["left"], ["right"]]
     masked = ["bows", "bows", "--relation", "FFFFF1***", "--rings", "even-odd", "--into", "never"]
     assert refused(server, *masked).strip().endswith("disjoint features may fit")
+
+
+def test_improper_rings_are_told_by_their_ids(server: Dict[str, str]) -> None:
+    """Of both tables, beside rows that are left out; an id may be null or have a line feed."""
+    bow = "'POLYGON ((0 0, 4 4, 4 0, 0 4, 0 0))'"
+    psql(server, "create table ties (id text, geom geometry)",
+         f"insert into ties values ('gone', null), ('proper', 'POINT (9 9)'), ('tie', {bow}),"
+         f" ('empty', 'POINT EMPTY'), (E'a\nb', {bow}), (null, {bow})")
+    told = done(server, "ties", "ties", "--left-id", "id", "--right-id", "id", "--relation",
+                "equals", "--rings", "even-odd", "--others", "skip", "--into", "tied")
+    line = ('rjoin-postgis: ties: even-odd rule for 3 rows with improper rings: ids tie, "a\\nb",'
+            " null\n")
+    assert told.count(line) == 2
 
 
 def test_ids_and_names_are_never_read_as_sql(server: Dict[str, str]) -> None:
@@ -384,13 +426,70 @@ def test_decimals(server: Dict[str, str]) -> None:
     words = ["fine", "zones", "--relation", "within", "--into"]
     assert "fine has 2 columns of type geometry" in refused(server, *words, "fine_pairs")
     words += ["fine_pairs", "--left-geometry", "a"]
-    assert "fine, id 7: a coordinate isn't written exactly" in refused(server, *words)
+    assert ("fine, id 7: a coordinate isn't written exactly by 6 decimals; give --decimals, at most"
+            " 6, to round") in refused(server, *words)
     told = done(server, *words, "--decimals", "2")
-    assert "fine: rows with coordinates rounded to 2 decimals: 1" in told
+    assert "rjoin-postgis: warning: fine: rows with coordinates rounded to 2 decimals: 1" in told
     own = psql(server, "select number, id from fine join zones on ST_Within(b, geom) order by 2")
     assert psql(server, "select left_id, right_id from fine_pairs order by 2") == own and own
-    assert "far, id 9: a coordinate is out of range" in refused(
-        server, "far", "zones", "--relation", "within", "--into", "far_pairs")
+    words = ["far", "zones", "--relation", "within", "--into", "far_pairs"]
+    for given in ("", "--decimals 6"):
+        fault = refused(server, *words, *given.split())
+        assert f"far, id 9: {AT_6}; give --decimals, at most 5, or --others skip" in fault
+    psql(server, "update far set a = 'POINT (2000000 0.0000001)'")
+    assert ("far, id 9: a coordinate isn't written exactly by 6 decimals; give --decimals, at most"
+            " 5, to round") in refused(server, *words)
+    done(server, *words, "--decimals", "5")
+
+
+NO_NUMBER = "a coordinate is not a number"
+TOO_FAR = "a coordinate is out of range: the limit is 1000000000000"
+AT_6 = "a coordinate is out of range: the limit at 6 decimals is 1000000"
+BEYOND = {
+    "ST_Point('NaN', 1)": NO_NUMBER,
+    "ST_MakeLine(ST_Point('NaN', 0), ST_Point(0, 1))": NO_NUMBER,
+    "ST_MakeLine(array[ST_Point(0, 0), ST_Point(1, 'NaN'), ST_Point(3, 0)])": NO_NUMBER,
+    "ST_MakePolygon(ST_MakeLine(array[ST_Point(0, 0), ST_Point('NaN', 0), ST_Point(1, 2),"
+    " ST_Point(0, 0)]))": NO_NUMBER,
+    "ST_Collect(ST_Point(1, 1), ST_Point('NaN', 1))": NO_NUMBER,
+    "ST_MakeLine(array[ST_Point(0, 0), ST_Point('Infinity', 0), ST_Point(1, 0)])": TOO_FAR,
+    "ST_Point(0, -1e300)": TOO_FAR,
+    "ST_MakeLine(ST_Point(1e12 + 1, 0.12345678), ST_Point(0, 0))": TOO_FAR,
+    "ST_Point(2000000, 0.000001)": AT_6,
+    "ST_Point(3000000, 1)": None,
+    "ST_Point(1, 1.25)": None,
+}
+
+
+@pytest.mark.parametrize("others", ["skip", "envelope"])
+def test_coordinates_that_no_decimals_write_are_left_out(server: Dict[str, str], others: str
+                                                         ) -> None:
+    """The row whose coordinates go together at no number of decimals doesn't decide it."""
+    name = f"beyond_{others}"
+    psql(server, f"create table {name} (id int primary key, text text, geom geometry)",
+         f"insert into {name} values " + ", ".join(
+             f"({number}, $${text}$$, {text})" for number, text in enumerate(BEYOND)))
+    words = [name, name, "--relation", "equals", "--rings", "even-odd", "--into", f"{name}_pairs"]
+    assert f"{name}, id 0: {NO_NUMBER}; choose --others skip" in refused(server, *words)
+    done(server, *words, "--others", others)
+    skipped = psql(server, f"select side, text, reason from {name}_pairs_skipped join {name}"
+                   f" on {name}.id::text = {name}_pairs_skipped.id")
+    told = {text: reason for text, reason in BEYOND.items() if reason}
+    for side in ("left", "right"):
+        assert {text: reason for its, text, reason in skipped if its == side} == told
+    kept = [str(number) for number, reason in enumerate(BEYOND.values()) if reason is None]
+    assert psql(server, f"select left_id, right_id from {name}_pairs order by 1") == [
+        [it, it] for it in kept]
+
+
+def test_rows_out_of_range_of_the_decimals_are_left_out(server: Dict[str, str]) -> None:
+    psql(server, "create table wide (id int primary key, geom geometry)",
+         "insert into wide values (1, 'POINT (2000000 1)'), (2, 'POINT (0.000001 1)')")
+    words = ["wide", "wide", "--relation", "equals", "--others", "skip", "--into"]
+    assert "rows listed in wide_pairs_skipped: 2\n" in done(server, *words, "wide_pairs")
+    assert psql(server, "select distinct id, reason from wide_pairs_skipped") == [["1", AT_6]]
+    assert psql(server, "select left_id, right_id from wide_pairs") == [["2", "2"]]
+    assert "rows listed in wide_5_skipped: 0\n" in done(server, *words, "wide_5", "--decimals", "5")
 
 
 def test_rounding_is_half_a_unit_away_from_zero(server: Dict[str, str]) -> None:
@@ -416,6 +515,82 @@ def test_rounding_is_half_a_unit_away_from_zero(server: Dict[str, str]) -> None:
         ["west", "west"]]
 
 
+def test_polygons_that_rounding_flattens(server: Dict[str, str]) -> None:
+    """A rectangle becomes a segment, another polygon keeps no interior, and a part that becomes a
+    point is no part any more."""
+    psql(server, "create table thin (id text primary key, geom geometry)",
+         "insert into thin values"
+         " ('segment', 'POLYGON ((3 3, 4 3, 4 3.001, 3 3.001, 3 3))'),"
+         " ('flat', 'POLYGON ((0 0, 2 0, 1 0.001, 0 0))'),"
+         " ('parts', 'MULTIPOLYGON (((5 5, 6 5, 5 6, 5 5)), ((8 8, 8.001 8, 8 8.002, 8 8)))'),"
+         " ('dot', 'POLYGON ((1 1, 1.001 1, 1 1.002, 1 1))')",
+         "create table pins (id text primary key, geom geometry)",
+         "insert into pins values ('segment', 'POINT (3.5 3)'), ('flat', 'POINT (1 0)'),"
+         " ('parts', 'POINT (5.25 5.25)'), ('tiny', 'POINT (8 8)'), ('dot', 'POINT (1 1)')")
+    words = ["pins", "thin", "--decimals", "2", "--others", "skip", "--relation"]
+    for relation, found in (("within", ["parts", "segment"]), ("touches", ["flat"])):
+        done(server, *words, relation, "--into", f"thin_{relation}")
+        pairs = psql(server, f"select left_id, right_id from thin_{relation} order by 1")
+        assert pairs == [[it, it] for it in found]
+    assert psql(server, "select * from thin_within_skipped") == [
+        ["right", "dot", "a polygon that is a point once rounded to 2 decimals"]]
+
+
+@pytest.mark.parametrize("decimals", range(1, 7))
+def test_the_fewest_decimals_write_all_digits(server: Dict[str, str], decimals: int) -> None:
+    """Numbers that differ in the last decimal, of points and of slanted lines."""
+    ones = "0." + (decimals - 1) * "1"
+    for kind, text in (("points", "POINT ({} 0)"), ("slants", "LINESTRING ({} 0, 5 7)")):
+        name = f"{kind}_{decimals}"
+        psql(server, f"create table {name} (id int primary key, geom geometry)",
+             f"insert into {name} values (1, '{text.format(ones + '1')}'),"
+             f" (2, '{text.format(ones + '2')}')")
+        done(server, name, name, "--relation", "equals", "--into", f"{name}_pairs")
+        pairs = psql(server, f"select left_id, right_id from {name}_pairs order by 1, 2")
+        assert pairs == [["1", "1"], ["2", "2"]]
+
+
+def test_a_line_that_goes_back_ends_where_it_ends(server: Dict[str, str]) -> None:
+    psql(server, "create table back (id int primary key, geom geometry)",
+         "insert into back values (1, 'LINESTRING (0 0, 2 0, 1 0)')",
+         "create table stops (id int primary key, geom geometry)",
+         "insert into stops values (0, 'POINT (0 0)'), (1, 'POINT (1 0)'), (2, 'POINT (2 0)')")
+    done(server, "stops", "back", "--relation", "touches", "--into", "back_stops")
+    assert psql(server, "select left_id from back_stops order by 1") == [["0"], ["1"]]
+
+
+def test_rows_that_are_left_out_have_any_system(server: Dict[str, str]) -> None:
+    psql(server, "create table partly (id int primary key, geom geometry)",
+         "insert into partly values (1, 'SRID=4326;POINT EMPTY'), (2, 'POINT (2 2)')")
+    done(server, "partly", "partly", "--relation", "equals", "--others", "skip",
+         "--into", "partly_pairs")
+    assert psql(server, "select left_id, right_id from partly_pairs") == [["2", "2"]]
+
+
+def test_workers_are_passed_on(server: Dict[str, str], program: Path, tmp_path: Path) -> None:
+    stand_in(tmp_path / "rjoin", f'echo "$*" >>{tmp_path}/words\nexec {program} "$@"')
+    words = ["parcels", "zones", "--relation", "overlaps", "--into"]
+    for given, passed in (("", "4"), ("--workers 3", "3"), ("--workers auto", "auto")):
+        ended = command(server, *words, f"by_{passed}", *given.split(),
+                        RJOIN=str(tmp_path / "rjoin"))
+        assert ended.returncode == 0, ended.stderr
+        last = (tmp_path / "words").read_text(encoding="utf-8").splitlines()[-1]
+        assert last.endswith(f" --workers {passed}")
+
+
+def test_the_database_is_named(server: Dict[str, str]) -> None:
+    psql(server, "create database named")
+    named = {**server, "PGDATABASE": "named"}
+    psql(named, "create extension postgis",
+         "create table dots (id int primary key, geom geometry)",
+         "insert into dots values (1, 'POINT (1 1)')")
+    words = ["dots", "dots", "--relation", "equals", "--into", "named_dots"]
+    for name in ("named", f"host={server['PGHOST']} dbname=named user={server['PGUSER']}"):
+        done({**server, "PGDATABASE": "template1"}, *words, "--dbname", name)
+        assert psql(named, "select count(*) from named_dots") == [["1"]]
+        psql(named, "drop table named_dots")
+
+
 def test_all_digits_are_handed_over(server: Dict[str, str]) -> None:
     """A half at 6 decimals and numbers next to halves, above and below."""
     psql(server, "create table digits (id int primary key, geom geometry)",
@@ -438,15 +613,64 @@ def test_all_digits_are_handed_over(server: Dict[str, str]) -> None:
     (["parcels", "zones", "--relation=--help"], "not a name or a mask"),
     (["parcels", "zones", "--relation", "within", "--left-id", "key"], "has no column key"),
     (["unkeyed", "zones", "--relation", "within"], "has no primary key of one column"),
+    (["keyed", "zones", "--relation", "within"], "keyed has no primary key of one column"),
     (["parcels", "zones", "--relation", "within", "--into", "zones"], "already exists"),
     (["other_system", "zones", "--relation", "within"], "the reference systems 0 and 4326"),
+    (["globe", "zones", "--relation", "within"],
+     "globe: the column place is of type geography: cast it to geometry in a view"),
+    (["globe", "zones", "--relation", "within", "--left-geometry", "place"],
+     "globe: the column place is of type geography: cast it to geometry in a view"),
+    (["parcels", "zones", "--relation", "within", "--into", 64 * "x"],
+     f"--into: a name has more than 63 bytes: {64 * 'x'}"),
+    (["parcels", "zones", "--relation", "within", "--others", "skip", "--into", 60 * "x"],
+     f"--skipped: a name has more than 63 bytes: {60 * 'x'}_skipped"),
+    (["parcels", "zones", "--relation", "within", "--left-columns", "geom", "--left-prefix",
+      60 * "x"], f"would have a name of more than 63 bytes: {60 * 'x'}geom"),
 ])
 def test_faults_leave_nothing(server: Dict[str, str], words: List[str], text: str) -> None:
     psql(server, "create table if not exists unkeyed (id int, geom geometry)",
+         "create table if not exists keyed (a int, b int, geom geometry, primary key (a, b))",
+         "create table if not exists globe (id int primary key, place geography)",
          "create table if not exists other_system (id int primary key, geom geometry)",
          "insert into other_system values (1, 'SRID=4326;POINT (1 1)') on conflict do nothing")
     before = tables(server)
     assert text in refused(server, *(words if "--into" in words else [*words, "--into", "never"]))
+    assert tables(server) == before
+
+
+def test_a_table_that_another_run_makes(server: Dict[str, str]) -> None:
+    """The run waits for the other one, whose table then has the name."""
+    with subprocess.Popen(["psql", "-qX"], env=server, stdin=subprocess.PIPE,
+                          stdout=subprocess.PIPE, text=True) as other:
+        assert other.stdin is not None and other.stdout is not None
+        other.stdin.write("begin; create table both_make (id int);\n\\echo made\n")
+        other.stdin.flush()
+        assert other.stdout.readline() == "made\n"
+        words = [str(COMMAND), "parcels", "zones", "--relation", "within", "--into", "both_make"]
+        with subprocess.Popen(words, env=server, stderr=subprocess.PIPE, text=True) as process:
+            wait_until(lambda: psql(server, "select count(*) from pg_stat_activity"
+                                    " where wait_event_type = 'Lock'") == [["1"]])
+            other.communicate("commit;\n")
+            _, errors = process.communicate(timeout=20)
+    assert errors == "rjoin-postgis: both_make already exists\n"
+
+
+def test_a_full_disk_is_told(server: Dict[str, str], tmp_path: Path) -> None:
+    """By a small file system for temporary files."""
+    words = ["unshare", "--map-root-user", "--mount", "sh", "-c",
+             'mount -t tmpfs -o size=8k tmpfs "$TMPDIR" && exec "$0" "$@"']
+    environment = {**server, "TMPDIR": str(tmp_path)}
+    if subprocess.run([*words, "true"], env=environment, capture_output=True).returncode != 0:
+        pytest.skip("no file system can be mounted")
+    psql(server, "create table wide_enough as select n as id, ST_Point(n, n) as geom"
+         " from generate_series(1, 1000) n")
+    before = tables(server)
+    words += [str(COMMAND), "wide_enough", "zones", "--left-id", "id", "--relation", "within",
+              "--into", "never"]
+    ended = subprocess.run(words, env=environment, capture_output=True, text=True, check=False)
+    assert ended.returncode == 1 and ended.stderr == (
+        "rjoin-postgis: could not write COPY data: No space left on device "
+        f"(in {tmp_path}; TMPDIR names another folder)\n")
     assert tables(server) == before
 
 

@@ -12,7 +12,8 @@ from typing import Any, Dict, Iterator, List, Tuple
 
 import pytest
 
-from town import COVERING, JOINS, ROOT, TOWN
+from test_boxes import line
+from town import COVERING, JOINS, ROOT, TOWN, stand_in
 
 sys.path.insert(0, str(ROOT / "bench"))
 import layers as made_layers  # noqa: E402
@@ -223,10 +224,11 @@ def test_other_geometries(runs: Any, tmp_path: Path) -> None:
         ours(others, parcels, "intersects", OTHERS=ENVELOPE, INPUT_LEFT_OUT="memory:"),
         ours(others, parcels, "intersects", OTHERS=LEAVE_OUT, INPUT_LEFT_OUT="memory:",
              DISCARD_NONMATCHING=False)])
-    assert "others, feature 6: not points, lines or polygons that rjoin reads" in stop["error"]
+    assert stop["error"].startswith(
+        "Base layer others, feature 6: not points, lines or polygons that rjoin reads")
     assert "but a curve or surface" in stop["error"]
     assert [row["id"] for row in envelopes["rows"]["INPUT_LEFT_OUT"]] == ["none"]
-    assert "others: features replaced by their envelopes: 2" in envelopes["log"]
+    assert "Base layer others: features replaced by their envelopes: 2" in envelopes["log"]
     exact = [(row["id"], row["exact"]) for row in envelopes["rows"]["OUTPUT"]]
     assert all(flag == (id in READ) for id, flag in exact)
     assert {flag for _, flag in exact} == {True, False}
@@ -367,8 +369,9 @@ def test_decimals_of_distances(runs: Any, tmp_path: Path) -> None:
     assert "Distance: 1.25 has more than 1 decimals" in refused["error"]
     assert "Distance: 0.1234567 isn't written exactly by 6 decimals" in many["error"]
     assert [(row["id"], row["distance"]) for row in lonely["rows"]["OUTPUT"]] == [("a", None)]
-    assert "With the decimals of the distance, 6, 30000000.0 is out of range" in (
-        out_of_range["error"])
+    assert out_of_range["error"] == (
+        "Join layer far, feature 1: coordinate 30000000.0 is out of range with 6 decimals: at most "
+        "4 fit")
 
 
 def test_distances_of_other_shapes(runs: Any) -> None:
@@ -402,6 +405,9 @@ def test_nearest_of_other_shapes(runs: Any, limit: Dict[str, Any]) -> None:
         check_nearest(runs, left, right, limit)
 
 
+LINE_ENDS = ("feature_x", "feature_y", "nearest_x", "nearest_y")
+
+
 def check_nearest(runs: Any, left: str, right: str, limit: Dict[str, Any]) -> None:
     """The same fields as QGIS's own, and its features; those that tie may change places. QGIS
     rounds distances before it compares them and misses ties, so all distances to 6 decimals
@@ -415,10 +421,54 @@ def check_nearest(runs: Any, left: str, right: str, limit: Dict[str, Any]) -> No
     assert distances(own) == nearest_of(distances(every), limit) and distances(own)
     assert set(distances(native)) <= set(distances(own))
     assert list(own["rows"]["OUTPUT"][0]) == list(native["rows"]["OUTPUT"][0])
+    found, theirs = ({(row["id"], row["id_2"]): [row[name] for name in LINE_ENDS]
+                      for row in answer["rows"]["OUTPUT"]} for answer in (own, native))
+    assert {pair: found[pair] for pair in theirs} == theirs
     for row in own["rows"]["OUTPUT"]:
-        line = [row[name] for name in ("feature_x", "feature_y", "nearest_x", "nearest_y")]
-        assert abs(((line[0] - line[2]) ** 2 + (line[1] - line[3]) ** 2) ** 0.5
-                   - row["distance"]) < 1e-5
+        x1, y1, x2, y2 = found[row["id"], row["id_2"]]
+        assert abs(((x1 - x2) ** 2 + (y1 - y2) ** 2) ** 0.5 - row["distance"]) < 1e-5
+    for left in {row["id"] for row in own["rows"]["OUTPUT"]}:
+        counted = [row["n"] for row in own["rows"]["OUTPUT"] if row["id"] == left]
+        assert counted == list(range(1, len(counted) + 1))
+
+
+def test_no_distance_is_a_limit_too(runs: Any) -> None:
+    """All that a feature meets are equally near."""
+    layers = town("parcels"), town("roads")
+    own, native = runs([
+        {"algorithm": "rjoin:joinnearest", "parameters": {
+            "INPUT": layers[0], "JOIN": layers[1], "MAX_DISTANCE": 0, "DISCARD_NONMATCHING": True,
+            "OUTPUT": "memory:"}},
+        natives(*layers, "intersects")])
+    assert pairs(own) == pairs(native) and pairs(own)
+
+
+def test_many_pairs(runs: Any, tmp_path: Path) -> None:
+    """More pairs than are made at once, each with its own partner and values."""
+    count = 17000
+    side = layer(tmp_path / "side.csv", {"side": "LINESTRING (0 0, 0 1)"})
+    area = layer(tmp_path / "area.csv", {
+        "area": "POLYGON ((-1 -1, 20000 -1, 20000 1, -1 1, -1 -1))"})
+    many = layer(tmp_path / "many.csv", {str(x): f"POINT ({x} {x % 2})" for x in range(count)})
+    rows, table = runs([near(side, many, count, JOIN_FIELDS=["id"]),
+                        ours(area, many, "intersects", METHOD=1, JOIN_ID="id")])
+    assert [(row["id_2"], row["distance"]) for row in rows["rows"]["OUTPUT"]] == [
+        (str(x), x) for x in range(count)]
+    assert [(row["right"], row["matrix"]) for row in table["rows"]["OUTPUT"]] == [
+        (str(x), ("0F2FF1FF2", "FF20F1FF2")[x % 2]) for x in range(count)]
+
+
+def test_pairs_of_several_relations_are_each_kept(runs: Any, tmp_path: Path) -> None:
+    """Of a base feature with the last join feature, and of the next one with the first."""
+    bars = layer(tmp_path / "bars.csv", {"a": "LINESTRING (0 0, 9 0)", "b": "LINESTRING (0 5, 9 5)",
+                                         "c": "LINESTRING (0 9, 9 9)"})
+    posts = layer(tmp_path / "posts.csv", {
+        "low": "LINESTRING (1 4, 1 6)", "high": "LINESTRING (2 9, 2 10)",
+        "last": "LINESTRING (3 0, 3 5)"})
+    (answer,) = runs([ours(bars, posts, "touches", RELATION=[1, 2])])
+    assert answer["error"] is None
+    assert [(row["id"], row["id_2"]) for row in answer["rows"]["OUTPUT"]] == [
+        ("a", "last"), ("b", "low"), ("b", "last"), ("c", "high")]
 
 
 def test_nearest_where_features_are_left_out(runs: Any, tmp_path: Path) -> None:
@@ -458,6 +508,20 @@ def test_each_row_by_an_envelope_says_so(runs: Any, tmp_path: Path) -> None:
             assert row["exact"] == (answer is meeting or row["id"] in {*READ, "far"})
 
 
+def test_what_a_base_feature_without_a_partner_rests_on(runs: Any, tmp_path: Path) -> None:
+    """No partner by envelopes is none by the shapes, unless those that share a point are left out,
+    or the relation asks for more than that."""
+    shapes = layer(tmp_path / "shapes.csv", {"curve": OTHERS["curve"], "far": FAR})
+    dots = layer(tmp_path / "dots.csv", {"dot": "POINT (500 500)"})
+    rules = {"OTHERS": ENVELOPE, "DISCARD_NONMATCHING": False, "NON_MATCHING": "memory:"}
+    answers = runs([near(shapes, dots, 1, **rules), near(shapes, dots, 1, APART=True, **rules),
+                    near(dots, shapes, 1, **rules), ours(dots, shapes, "touches", **rules)])
+    for answer, exact in zip(answers, ({"curve": True, "far": True}, {"curve": False, "far": True},
+                                       {"dot": True}, {"dot": False})):
+        for output in ("OUTPUT", "NON_MATCHING"):
+            assert {row["id"]: row["exact"] for row in answer["rows"][output]} == exact
+
+
 def test_a_base_feature_has_no_partner_only_where_that_is_known(runs: Any, tmp_path: Path) -> None:
     others = layer(tmp_path / "others.csv", OTHERS)
     far = layer(tmp_path / "far.csv", {"a": "POINT (1 8)", "b": "POINT (30 30)"})
@@ -467,7 +531,8 @@ def test_a_base_feature_has_no_partner_only_where_that_is_known(runs: Any, tmp_p
         ours(far, town("zones"), "within", INCOMPLETE=MARK, **rules),
         ours(far, others, "within", OTHERS=LEAVE_OUT),
         ours(far, others, "within", METHOD=1, **rules)])
-    assert "others: features left out: 3, each of which may be the partner" in stop["error"]
+    assert stop["error"].startswith(
+        "Join layer others: features left out: 3, each of which may be the partner")
     assert sorted({(row["id"], row["id_2"], row["known"]) for row in marked["rows"]["OUTPUT"]},
                   key=str) == [("a", "holed", True), ("a", "parts", True), ("b", None, False)]
     assert all(row["known"] for row in whole["rows"]["OUTPUT"])
@@ -552,14 +617,17 @@ def test_decimals(runs: Any, tmp_path: Path) -> None:
     zone = layer(tmp_path / "zone.csv", {"z": "POLYGON ((0.25 0, 1 0, 1 1, 0.25 1, 0.25 0))"})
     fine = layer(tmp_path / "fine.csv", {"a": "POINT (1 1)", "f": "POINT (0.2500001 0.5)"})
     far = layer(tmp_path / "far.csv", {"a": "POINT (1 1)", "far": "POINT (2000000 0.000001)"})
-    exact, inexact, rounded, out_of_range = runs([
+    exact, inexact, rounded, out_of_range, whole = runs([
         ours(quarter, zone, "touches"), ours(fine, zone, "touches"),
-        ours(fine, zone, "touches", DECIMALS=2), ours(far, zone, "touches")])
+        ours(fine, zone, "touches", DECIMALS=2), ours(far, zone, "touches"),
+        ours(quarter, zone, "touches", DECIMALS=0)])
+    assert pairs(whole) == [("a", "z")] and "Decimals of the coordinates: 0" in whole["log"]
+    assert "Join layer zone: features with coordinates rounded to 0 decimals: 1" in whole["log"]
     assert pairs(exact) == [("a", "z")] and "Decimals of the coordinates: 2" in exact["log"]
     assert "fine, feature 2: coordinate 0.2500001 isn't written exactly" in inexact["error"]
-    assert "give the parameter Decimals (DECIMALS) to round to" in inexact["error"]
+    assert "give the parameter Decimals (DECIMALS) to round to, at most 6" in inexact["error"]
     assert pairs(rounded) == [("a", "z"), ("f", "z")]
-    assert "fine: features with coordinates rounded to 2 decimals: 1" in rounded["log"]
+    assert "Base layer fine: features with coordinates rounded to 2 decimals: 1" in rounded["log"]
     assert "far, feature 2: coordinate 2000000.0 is out of range" in out_of_range["error"]
 
 
@@ -581,7 +649,7 @@ def test_decimals_of_any_geometry(runs: Any, tmp_path: Path) -> None:
         " no length once rounded to 2 decimals" in stopped["error"]
     assert pairs(rounded) == [("east", "east"), ("end", "slanted"), ("far", "short"),
                               ("middle", "slanted"), ("west", "west")]
-    assert "lines: features with coordinates rounded to 2 decimals: 4" in rounded["log"]
+    assert "Join layer lines: features with coordinates rounded to 2 decimals: 4" in rounded["log"]
 
 
 def test_reference_systems_must_agree(runs: Any, tmp_path: Path) -> None:
@@ -595,11 +663,125 @@ def test_reference_systems_must_agree(runs: Any, tmp_path: Path) -> None:
     one, other = packages
     answers = runs([*requests, ours(one, other, "equals"), ours(one, one, "equals"),
                     ours(town("stations"), one, "equals"), ours(one, town("stations"), "equals")])
-    assert "EPSG:32632 and EPSG:32633" in answers[2]["error"]
+    name = "EPSG:32632 - WGS 84 / UTM zone 32N"
+    assert f"The reference systems differ: {name} of the base layer, and EPSG:32633 - " in (
+        answers[2]["error"])
     assert len(pairs(answers[3])) == len(station_ids())
-    taken = "One layer has no reference system; that of the other is taken: EPSG:32632"
-    for answer in answers[4:]:
-        assert taken in answer["log"] and answer["systems"]["OUTPUT"] == "EPSG:32632"
+    for answer, without, other in zip(answers[4:], ("base", "join"), ("join", "base")):
+        assert answer["systems"]["OUTPUT"] == "EPSG:32632"
+        assert (f"The {without} layer has no reference system; that of the {other} layer is taken: "
+                f"{name}") in answer["log"]
+
+
+LOCAL = """WKT:PROJCRS["Grid of the works",BASEGEOGCRS["WGS 84",DATUM["World Geodetic System 1984",
+ELLIPSOID["WGS 84",6378137,298.257223563]]],CONVERSION["grid",METHOD["Transverse Mercator",
+ID["EPSG",9807]],PARAMETER["Longitude of natural origin",9.12]],CS[Cartesian,2],AXIS["(E)",east],
+AXIS["(N)",north],LENGTHUNIT["metre",1]]"""
+
+
+def test_reference_systems_without_a_code_are_named(runs: Any, tmp_path: Path) -> None:
+    paths = [str(tmp_path / f"{name}.gpkg") for name in ("local", "known")]
+    answers = runs([*({"algorithm": "native:assignprojection", "parameters": {
+        "INPUT": town("stations"), "CRS": system, "OUTPUT": path}}
+        for path, system in zip(paths, (LOCAL.replace("\n", ""), "EPSG:32632"))),
+        ours(paths[0], paths[1], "equals"),
+        {"algorithm": "rjoin:featuresinwindow", "parameters": {
+            "INPUT": paths[0], "WINDOW": "0,9,0,9 [EPSG:32632]", "OUTPUT": "memory:"}}])
+    assert "differ: Grid of the works of the base layer" in answers[2]["error"]
+    assert "of the window, and Grid of the works of the layer" in answers[3]["error"]
+
+
+def test_messages_name_the_base_layer_or_the_join_layer(runs: Any, tmp_path: Path) -> None:
+    same = []
+    for folder, text in (("one", "POINT (1 1)"), ("other", "POINT (0.1234567 1)")):
+        (tmp_path / folder).mkdir()
+        same.append(layer(tmp_path / folder / "same.csv", {"a": text}))
+    table = tmp_path / "table.csv"
+    table.write_text("id,name\na,b\n", encoding="utf-8")
+    parcels = town("parcels")
+    inexact, base, join, no_field, neither = runs([
+        ours(same[0], same[1], "equals"), ours(str(table), parcels, "equals", OTHERS=LEAVE_OUT),
+        ours(parcels, str(table), "equals", OTHERS=LEAVE_OUT),
+        ours(same[0], parcels, "equals", METHOD=1, INPUT_ID="name"),
+        {"algorithm": "rjoin:layerstatistics", "parameters": {
+            "INPUT": str(table), "OTHERS": LEAVE_OUT}}])
+    assert inexact["error"].startswith("Join layer same, feature 1: coordinate 0.1234567")
+    assert base["error"] == "Base layer table has no geometries"
+    assert join["error"] == "Join layer table has no geometries"
+    assert no_field["error"] == "Base layer same has no field name"
+    assert neither["error"] == "Layer table has no geometries"
+
+
+def square(x: float, y: float) -> str:
+    return f"POLYGON (({x} {y}, {x + 1} {y}, {x + 1} {y + 1}, {x} {y + 1}, {x} {y}))"
+
+
+def test_what_is_out_of_range(runs: Any, tmp_path: Path) -> None:
+    """What the decimals of the run don't reach is left out like any other geometry; an envelope
+    stays with its feature."""
+    squares = {"far": square(2000000, 1), "near": square(1, 1), "beyond": square(2e13, 1),
+               "further": square(3, 500000000)}
+    far = layer(tmp_path / "far.csv", squares)
+    mixed = layer(tmp_path / "mixed.csv", {**squares, "curve": OTHERS["curve"],
+                                           "box": OTHERS["box"]})
+    fine = layer(tmp_path / "fine.csv", {"z": "POLYGON ((0 0, 2.000001 0, 0 2.000001, 0 0))"})
+    out = {"INPUT_LEFT_OUT": "memory:", "OTHERS": LEAVE_OUT}
+    limits = layer(tmp_path / "limits.csv", dict(list(squares.items())[:2]))
+    (beyond, found, given, left_out, by_given, envelopes, partner, by_distance, counted,
+     window) = runs([
+        ours(far, fine, "overlaps"), ours(limits, fine, "overlaps"),
+        ours(limits, fine, "overlaps", DECIMALS=6), ours(far, fine, "overlaps", **out),
+        ours(far, fine, "overlaps", DECIMALS=6, **out),
+        ours(mixed, fine, "intersects", OTHERS=ENVELOPE, INPUT_LEFT_OUT="memory:"),
+        ours(fine, far, "overlaps", OTHERS=LEAVE_OUT, DISCARD_NONMATCHING=False),
+        near(far, fine, 0.000001, DECIMALS=6, **out),
+        {"algorithm": "rjoin:layerstatistics", "parameters": {
+            "INPUT": far, "OTHERS": LEAVE_OUT, "DECIMALS": 4}},
+        {"algorithm": "rjoin:featuresinwindow", "parameters": {
+            "INPUT": far, "WINDOW": "0,9,0,9", "OTHERS": LEAVE_OUT, "DECIMALS": 4,
+            "OUTPUT": "memory:", "LEFT_OUT": "memory:"}}])
+    assert beyond["error"] == ("Base layer far, feature 3: coordinate 20000000000000.0 is out of "
+                               "range: the limit is 1,000,000,000,000")
+    assert found["error"] == given["error"] == (
+        "Base layer limits, feature 1: coordinate 2000000.0 is out of range with 6 decimals: at "
+        "most 5 fit")
+    reasons = {"beyond": "a coordinate out of range",
+               "far": "a coordinate out of range with 6 decimals",
+               "further": "a coordinate out of range with 6 decimals"}
+    for answer in (left_out, by_given, by_distance, envelopes):
+        assert {(row["id"], row["id_2"]) for row in answer["rows"]["OUTPUT"]} >= {("near", "z")}
+        assert {row["id"]: row["reason"] for row in answer["rows"]["INPUT_LEFT_OUT"]} == reasons
+    assert {row["id"]: row["exact"] for row in envelopes["rows"]["OUTPUT"]} == {
+        "near": True, "curve": False, "box": True}
+    assert "features left out: 3, each of which may be the partner" in partner["error"]
+    assert (counted["results"]["FEATURES"], counted["results"]["LEFT_OUT_COUNT"]) == (2, 2)
+    assert [row["id"] for row in window["rows"]["OUTPUT"]] == ["near"]
+    assert [row["id"] for row in window["rows"]["LEFT_OUT"]] == ["beyond", "further"]
+
+
+def test_points_that_are_not_finite(runs: Any, tmp_path: Path) -> None:
+    """They are left out, also where the bounds that QGIS has of the others are finite; a line
+    without a length has an envelope, also at the origin."""
+    ogr = pytest.importorskip("osgeo.ogr")
+    path = str(tmp_path / "lines.gpkg")
+    package = ogr.GetDriverByName("GPKG").CreateDataSource(path)
+    lines = package.CreateLayer("lines", None, ogr.wkbLineString)
+    lines.CreateField(ogr.FieldDefn("id", ogr.OFTString))
+    for name, wkb in (("slanted", line((0, 0), (5, 6))), ("short", line((0, 0), (0, 0))),
+                      ("nan", line((0, 0), (5, float("nan")), (9, 9)))):
+        feature = ogr.Feature(lines.GetLayerDefn())
+        feature.SetField("id", name)
+        feature.SetGeometry(ogr.CreateGeometryFromWkb(wkb))
+        lines.CreateFeature(feature)
+    del feature, lines, package  # which closes it
+    answers = runs([ours(path, town("parcels"), "intersects", OTHERS=others, METHOD=2,
+                         INPUT_LEFT_OUT="memory:") for others in (LEAVE_OUT, ENVELOPE)])
+    for answer, read, gone in zip(answers, ({"slanted"}, {"slanted", "short"}),
+                                  ({"nan", "short"}, {"nan"})):
+        assert {row["id"] for row in answer["rows"]["OUTPUT"]} == read
+        assert {row["id"] for row in answer["rows"]["INPUT_LEFT_OUT"]} == gone
+        assert "a coordinate isn't finite" in {
+            row["reason"] for row in answer["rows"]["INPUT_LEFT_OUT"]}
 
 
 def test_windows_of_a_point_or_of_no_unit(runs: Any) -> None:
@@ -645,13 +827,15 @@ def test_window_over_any_geometry(runs: Any) -> None:
 
 def test_statistics(runs: Any, tmp_path: Path) -> None:
     others = layer(tmp_path / "others.csv", OTHERS)
+    quarter = layer(tmp_path / "quarter.csv", {"a": "POINT (0.25 0.5)"})
     answers = runs([{"algorithm": "rjoin:layerstatistics", "parameters": {
         "INPUT": source, "OTHERS": LEAVE_OUT}}
-        for source in (town("parcels"), town("roads"), town("stations"), others)])
+        for source in (town("parcels"), town("roads"), town("stations"), others, quarter)])
     counted = [tuple(answer["results"].get(name) for name in (
         "FEATURES", "POINTS", "SEGMENTS", "RECTANGLES", "LEFT_OUT_COUNT")) for answer in answers]
     assert counted == [(57, 0, 0, 57, 0), (16, 0, 16, 0, 0), (16, 16, 0, 0, 0),
-                       (5, 0, None, None, 3)]
+                       (5, 0, None, None, 3), (1, 1, 0, 0, 0)]
+    assert [answer["results"]["DECIMALS_FOUND"] for answer in answers] == [0, 0, 0, 0, 2]
     assert [answers[3]["results"][name] for name in ("LINES", "AREAS", "VERTICES")] == [0, 5, 34]
 
 
@@ -667,10 +851,37 @@ def test_progress_and_cancel(runs: Any, tmp_path: Path) -> None:
     assert not output.exists()
 
 
+def test_no_part_of_an_output_stays(runs: Any, tmp_path: Path) -> None:
+    """Where the run is cancelled while it is written, or where it can't be written, such as a line
+    among points."""
+    left, right = (str(path) for path in made_layers.write_pair(tmp_path, "rectangles", 5000))
+    mixed = layer(tmp_path / "mixed.csv", {"a": "POINT (1 1)", "b": "LINESTRING (1 1, 20 1)"})
+    folder = tmp_path / "outputs"
+    folder.mkdir()
+    package, shapes = ({"OUTPUT": str(folder / f"part.{form}")} for form in ("gpkg", "shp"))
+    *cancelled, failed = runs([
+        {**ours(left, right, "overlaps", **package), "cancel_at": 90},
+        {**ours(left, right, "overlaps", **shapes), "cancel_at": 90},
+        ours(mixed, town("parcels"), "intersects", **shapes)])
+    for answer in cancelled:
+        assert answer["error"] == "cancelled" and max(answer["progress"]) >= 90
+    assert "the output OUTPUT could not be written" in failed["error"]
+    assert list(folder.iterdir()) == []
+
+
 def test_the_program_is_named_where_it_is_missing(runs: Any) -> None:
     request = {**ours(town("parcels"), town("roads"), "touches"), "program": "/nowhere/rjoin"}
     (answer,) = runs([request])
     assert "RJOIN is '/nowhere/rjoin'" in answer["error"]
+
+
+def test_the_number_of_threads_is_given_to_the_program(runs: Any, tmp_path: Path) -> None:
+    words = tmp_path / "words"
+    program = stand_in(tmp_path / "rjoin", f'echo "$@" >> {words}')
+    (answer,) = runs([{**ours(town("parcels"), town("roads"), "touches", WORKERS=3),
+                       "program": str(program)}])
+    assert "wrote no report" in answer["error"]
+    assert words.read_text(encoding="utf-8").splitlines()[-1].endswith("--workers 3")
 
 
 def test_wrong_masks_are_refused(runs: Any) -> None:

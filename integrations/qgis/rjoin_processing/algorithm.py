@@ -1,6 +1,7 @@
 """The base of all algorithms: common parameters, the output of features left out, a run."""
 from __future__ import annotations
 
+import os
 import tempfile
 from contextlib import contextmanager
 from itertools import islice
@@ -13,6 +14,7 @@ from qgis.core import (
     QgsFeatureSink,
     QgsField,
     QgsFields,
+    QgsFileUtils,
     QgsProcessingAlgorithm,
     QgsProcessingContext,
     QgsProcessingException,
@@ -25,6 +27,7 @@ from qgis.core import (
     QgsProcessingParameterFeatureSink,
     QgsProcessingParameterNumber,
     QgsProcessingUtils,
+    QgsWkbTypes,
 )
 from qgis.PyQt.QtCore import QVariant
 
@@ -47,7 +50,7 @@ ignored.</p>
 stop the run with an error that names the feature; or their envelopes (bounding boxes) stand in \
 for them, and the field <i>exact</i> says which rows rest on none; or they are left out. The \
 features left out go to an output of their own with the reason. So do features without a \
-geometry, unless they stop the run.</p>
+geometry, and those with coordinates out of range, unless they stop the run.</p>
 <h3>Invalid polygons</h3>
 <p>By the setting <i>Invalid features filtering</i> of the input, or else of Processing: invalid \
 polygons stop the run; or are left out; or, without filtering, are read by the even-odd rule: a \
@@ -96,11 +99,17 @@ class RjoinAlgorithm(QgsProcessingAlgorithm):
 
     def source_of(self, parameters: Dict[str, Any], name: str, context: QgsProcessingContext
                   ) -> QgsProcessingFeatureSource:
-        """An input layer."""
+        """An input layer, which has geometries."""
         source = self.parameterAsSource(parameters, name, context)
         if source is None:
             raise QgsProcessingException(self.invalidSourceError(parameters, name))
+        if source.wkbType() == QgsWkbTypes.NoGeometry:
+            raise QgsProcessingException(f"{self.title_of(name, source)} has no geometries")
         return source
+
+    def title_of(self, name: str, source: QgsProcessingFeatureSource) -> str:
+        """How messages name an input layer: by its parameter and its own name."""
+        return f"{self.parameterDefinition(name).description()} {source.sourceName()}"
 
     def given_decimals(self, parameters: Dict[str, Any], context: QgsProcessingContext
                        ) -> int | None:
@@ -169,18 +178,29 @@ class Output:
         self.identifier = identifier
 
     def add(self, features: Iterator[QgsFeature],
-            goes_on: Callable[[int], bool] = lambda done: True) -> None:
-        """Writes features; a refused one is an error.
+            advance: Callable[[int], None] = lambda done: None) -> None:
+        """Writes features; a refused one is an error. No part of a file stays after an error.
 
-        goes_on: whether more are to be written, by the number of those that are.
+        advance: is told how many are written, and may end the run.
         """
-        done = 0
-        while self.sink is not None and goes_on(done) and (
-                batch := list(islice(features, BATCH))):
-            if not self.sink.addFeatures(batch, QgsFeatureSink.FastInsert):
-                raise QgsProcessingException(
-                    f"the output {self.name} could not be written: {self.sink.lastError()}")
-            done += len(batch)
+        try:
+            done = 0
+            advance(done)
+            while self.sink is not None and (batch := list(islice(features, BATCH))):
+                if not self.sink.addFeatures(batch, QgsFeatureSink.FastInsert):
+                    raise QgsProcessingException(
+                        f"the output {self.name} could not be written: {self.sink.lastError()}")
+                done += len(batch)
+                advance(done)
+        except Exception:
+            self._discard()
+            raise
+
+    def _discard(self) -> None:
+        """Closes the sink, and removes the file that it has made."""
+        if self.result() and os.path.isfile(self.identifier):
+            for path in (*QgsFileUtils.sidecarFilesForPath(self.identifier), self.identifier):
+                os.remove(path)
 
     def result(self) -> Dict[str, Any]:
         """What the algorithm answers for this output; it closes the sink."""
@@ -189,6 +209,11 @@ class Output:
         self.sink.flushBuffer()
         self.sink = None
         return {self.name: self.identifier}
+
+
+def system_name(system: QgsCoordinateReferenceSystem) -> str:
+    """How messages name a reference system: by its code, if it has one, and its description."""
+    return str(system.userFriendlyIdentifier())
 
 
 def check_program(feedback: QgsProcessingFeedback) -> None:

@@ -61,6 +61,11 @@ class Columns(NamedTuple):
         return Columns(self.form[first:end], self.size[first:end], self.points[theirs],
                        self.leads[theirs])
 
+    def chosen(self, flags: "Flags") -> "Columns":
+        """The geometries for which a flag is set."""
+        theirs = np.repeat(flags, self.size)
+        return Columns(self.form[flags], self.size[flags], self.points[theirs], self.leads[theirs])
+
 
 def joined(parts: Sequence[Columns]) -> Columns:
     """The geometries of all parts, which are at least one."""

@@ -2,7 +2,7 @@
 from __future__ import annotations
 
 from abc import ABC, abstractmethod
-from typing import Any, Iterable, List, Sequence, Tuple
+from typing import Any, List, Sequence, Tuple
 
 import numpy as np
 from qgis.core import (
@@ -17,7 +17,7 @@ from qgis.PyQt.QtCore import QVariant
 from . import decimals as units
 from . import program
 from .answers import Meaning, Pairs
-from .layers import Layer, common_decimals
+from .layers import Layer, common_decimals, leave_out_far, most_decimals
 from .report import Report
 
 INTERSECTS = "intersects"
@@ -106,12 +106,16 @@ class Distances(Condition):
         rounded then; but no fewer than write all numbers exactly."""
         decimals = common_decimals(layers, given, feedback)
         reach = [] if self.distance is None else [self.distance]
-        if given is None:
-            decimals = _finest(reach, layers, decimals)
-        elif units.rounded_places(reach, decimals).size:
-            raise QgsProcessingException(
-                f"Distance: {units.text(reach[0])} has more than {decimals} decimals")
-        _check_limit(reach, layers, decimals)
+        try:
+            if given is None:
+                decimals = _finest(reach, layers, decimals)
+            elif units.rounded_places(reach, decimals).size:
+                raise QgsProcessingException(
+                    f"Distance: {units.text(reach[0])} has more than {decimals} decimals")
+            units.check_limit(reach, decimals)
+        except units.CoordinateError as fault:
+            raise QgsProcessingException(f"Distance: {fault}") from fault
+        leave_out_far(layers, decimals)
         feedback.pushInfo(f"Decimals of the distances: {decimals}")
         return decimals
 
@@ -130,26 +134,8 @@ class Distances(Condition):
 
 def _finest(reach: Sequence[float], layers: Sequence[Layer], least: int) -> int:
     """As many decimals as the range allows, but no fewer than write the distance exactly."""
-    try:
-        fewest = units.fewest_decimals(reach, least)
-    except units.CoordinateError as fault:
-        raise QgsProcessingException(f"Distance: {fault}; give the parameter Decimals (DECIMALS) "
-                                     "to round to") from fault
-    return max(fewest, min(map(units.most_decimals, _all_numbers(reach, layers))))
-
-
-def _all_numbers(reach: Sequence[float], layers: Iterable[Layer]) -> List[units.Coordinates]:
-    return [reach, *(layer.coordinates for layer in layers)]
-
-
-def _check_limit(reach: Sequence[float], layers: Iterable[Layer], decimals: int) -> None:
-    """Ends the run where a number is out of range with the decimals of the distance."""
-    try:
-        for numbers in _all_numbers(reach, layers):
-            units.check_limit(numbers, decimals)
-    except units.CoordinateError as fault:
-        raise QgsProcessingException(
-            f"With the decimals of the distance, {decimals}, {fault}") from fault
+    fewest = units.fewest_decimals(reach, least)
+    return max(fewest, min(units.most_decimals(reach), most_decimals(layers)))
 
 
 class Within(Distances):

@@ -36,14 +36,14 @@ class CoordinateError(ValueError):
 def fewest_decimals(coordinates: Coordinates, least: int = 0) -> int:
     """The fewest decimals, from `least` on, that write every coordinate exactly."""
     numbers = np.asarray(coordinates, np.float64)
-    far = _out_of_range(numbers, LIMIT)
+    far = far_places(numbers, 0)
     places = np.flatnonzero(~_are_exact(numbers, least))
     decimals = least
     while places.size and decimals < MOST_DECIMALS:
         decimals += 1
         places = places[~_are_exact(numbers[places], decimals)]
     if far.size and not (places.size and places[0] < far[0]):
-        raise _too_far(numbers, int(far[0]), LIMIT)
+        raise _too_far(numbers, int(far[0]), 0)
     if places.size:
         place = int(places[0])
         raise CoordinateError(
@@ -64,22 +64,29 @@ def _are_exact(numbers: Numbers, decimals: int) -> Flags:
 def check_limit(coordinates: Coordinates, decimals: int) -> None:
     """Raises CoordinateError at the first coordinate out of rjoin's range at these decimals."""
     numbers = np.asarray(coordinates, np.float64)
-    limit = LIMIT // 10**decimals
-    far = _out_of_range(numbers, limit)
+    far = far_places(numbers, decimals)
     if far.size:
-        raise _too_far(numbers, int(far[0]), limit)
+        raise _too_far(numbers, int(far[0]), decimals)
 
 
-def _out_of_range(numbers: Numbers, limit: int) -> Units:
-    """The places of numbers out of range."""
+def far_places(numbers: Numbers, decimals: int) -> Units:
+    """The places of the coordinates out of rjoin's range at these decimals."""
+    limit = LIMIT // 10**decimals
     if numbers.min(initial=0.0) >= -limit and numbers.max(initial=0.0) <= limit:
         return np.empty(0, np.int64)
     return np.flatnonzero(~(np.abs(numbers) <= limit))
 
 
-def _too_far(numbers: Numbers, place: int, limit: int) -> CoordinateError:
-    return CoordinateError(place, f"{float(numbers[place])!r} is out of range: the limit is "
-                                  f"{limit:,}, which is lower the more decimals there are")
+def _too_far(numbers: Numbers, place: int, decimals: int) -> CoordinateError:
+    return CoordinateError(
+        place, far_text(float(numbers[place]), decimals, most_decimals(numbers)))
+
+
+def far_text(number: float, decimals: int, most: int) -> str:
+    """What to say of a number out of range; most: how many decimals all numbers may have."""
+    if abs(number) > LIMIT:
+        return f"{number!r} is out of range: the limit is {LIMIT:,}"
+    return f"{number!r} is out of range with {decimals} decimals: at most {most} fit"
 
 
 def most_decimals(coordinates: Coordinates) -> int:

@@ -34,6 +34,7 @@ from .algorithm import (
     Steps,
     check_program,
     faults_shown,
+    system_name,
     with_fields,
 )
 from .answers import JoinFields, Pairs
@@ -153,8 +154,9 @@ class _Run:
         self.condition.check()
         left = self._read(self.left, "INPUT")
         right = self._read(self.right, "JOIN")
+        decimals = self._decimals([left, right])
         self._check_complete(right)
-        pairs = self._join(folder, left, right)
+        pairs = self._join(folder, left, right, decimals)
         firsts = pairs.firsts()
         if self.method == FIRST_PARTNER_ALONE:
             pairs = pairs.chosen(firsts)
@@ -171,10 +173,17 @@ class _Run:
     def _read(self, source: QgsProcessingFeatureSource, name: str) -> Layer:
         feedback = self.steps.begin(f"Reading {source.sourceName()}")
         rules = self.algorithm.rules_of(self.parameters, name, self.context)
-        layer = read_layer(source, rules, feedback)
+        layer = read_layer(source, self.algorithm.title_of(name, source), rules, feedback)
         self.steps.check_cancelled()
-        tell(layer, bool(self.parameters.get(f"{name}_LEFT_OUT")), feedback)
         return layer
+
+    def _decimals(self, layers: List[Layer]) -> int:
+        """The decimals of the run; what they don't reach is left out, and all that is is told."""
+        given = self.algorithm.given_decimals(self.parameters, self.context)
+        decimals = self.condition.decimals(layers, given, self.steps.feedback)
+        for layer, name in zip(layers, ("INPUT_LEFT_OUT", "JOIN_LEFT_OUT")):
+            tell(layer, bool(self.parameters.get(name)), self.steps.feedback)
+        return decimals
 
     def _check_complete(self, right: Layer) -> None:
         """Stops where a feature that was left out may change a row."""
@@ -189,11 +198,9 @@ class _Run:
             "partner of a base feature without one. Discard base features without a partner, "
             "or keep them, marked in the field known.")
 
-    def _join(self, folder: Path, left: Layer, right: Layer) -> Pairs:
+    def _join(self, folder: Path, left: Layer, right: Layer, decimals: int) -> Pairs:
         feedback = self.steps.begin(f"Joining by {self.condition.title}")
-        given = self.algorithm.given_decimals(self.parameters, self.context)
-        decimals = self.condition.decimals([left, right], given, feedback)
-        paths = folder / "left.csv", folder / "right.csv"
+        paths = folder / "base.csv", folder / "join.csv"
         for path, layer in zip(paths, (left, right)):
             write_layer(path, layer, decimals)
             feedback.setProgress(40 if layer is left else 80)
@@ -222,9 +229,13 @@ class _Run:
             inexact = count - int(added.are_exact(pairs).sum())
             feedback.pushInfo("Pairs that rest on an envelope, where the field exact is false: "
                               f"{inexact} of {count}")
-        output.add(features, lambda done: _goes_on(done / max(1, count), feedback))
-        self.steps.check_cancelled()
+        output.add(features, lambda done: self._advance(done / max(1, count)))
         return {**output.result(), **self._write_lonely(added, pairs)}
+
+    def _advance(self, share: float) -> None:
+        """Shows the progress, unless the user has cancelled."""
+        self.steps.feedback.setProgress(min(100.0, 100 * share))
+        self.steps.check_cancelled()
 
     def _write_lonely(self, added: JoinFields, pairs: Pairs) -> Dict[str, Any]:
         output = self.algorithm.sink_of(
@@ -236,7 +247,7 @@ class _Run:
     def _joined(self, added: JoinFields, pairs: Pairs
                 ) -> tuple[Output, Iterator[QgsFeature]]:
         names = self.algorithm.parameterAsFields(self.parameters, "JOIN_FIELDS", self.context)
-        places = _places(self.right.fields(), names)
+        places = _places(self.right.fields(), names, added.right)
         prefix = self.algorithm.parameterAsString(self.parameters, "PREFIX", self.context)
         right = QgsFields()
         for place in places:
@@ -252,8 +263,9 @@ class _Run:
         left_id = self.algorithm.parameterAsString(self.parameters, "INPUT_ID", self.context)
         right_id = self.algorithm.parameterAsString(self.parameters, "JOIN_ID", self.context)
         fields = QgsFields()
-        for field in (_id_field(self.left.fields(), left_id, "left"),
-                      _id_field(self.right.fields(), right_id, "right"), *added.fields()):
+        for field in (_id_field(self.left.fields(), left_id, "left", added.left),
+                      _id_field(self.right.fields(), right_id, "right", added.right),
+                      *added.fields()):
             fields.append(field)
         return self._output(fields, QgsWkbTypes.NoGeometry), joined.pair_features(
             added, _ids(added.left, self.left.fields(), left_id),
@@ -270,29 +282,31 @@ def _common_system(left: QgsProcessingFeatureSource, right: QgsProcessingFeature
     one, other = left.sourceCrs(), right.sourceCrs()
     if one.isValid() and other.isValid() and one != other:
         raise QgsProcessingException(
-            f"The layers have the reference systems {one.authid()} and {other.authid()}. "
-            "Reproject the join layer first, and give the number of decimals to round to.")
+            f"The reference systems differ: {system_name(one)} of the base layer, and "
+            f"{system_name(other)} of the join layer. Reproject the join layer first, and give the "
+            "number of decimals to round to.")
     system = one if one.isValid() else other
     if one.isValid() != other.isValid():
-        feedback.pushWarning("One layer has no reference system; that of the other is taken: "
-                             f"{system.authid()}")
+        without, other_one = ("join", "base") if one.isValid() else ("base", "join")
+        feedback.pushWarning(f"The {without} layer has no reference system; that of the "
+                             f"{other_one} layer is taken: {system_name(system)}")
     return system
 
 
-def _places(fields: QgsFields, names: List[str]) -> List[int]:
-    """The places of named fields, or of all of them."""
+def _places(fields: QgsFields, names: List[str], layer: Layer) -> List[int]:
+    """The places of named fields of a layer, or of all of them."""
     if not names:
         return list(range(fields.count()))
     places = [fields.lookupField(name) for name in names]
     if -1 in places:
-        raise QgsProcessingException(f"the join layer has no field {names[places.index(-1)]}")
+        raise QgsProcessingException(f"{layer.name} has no field {names[places.index(-1)]}")
     return places
 
 
-def _id_field(fields: QgsFields, name: str, title: str) -> QgsField:
+def _id_field(fields: QgsFields, name: str, title: str, layer: Layer) -> QgsField:
     if not name:
         return joined.feature_id_field(title)
-    field = QgsField(fields[_places(fields, [name])[0]])
+    field = QgsField(fields[_places(fields, [name], layer)[0]])
     field.setName(title)
     return field
 
@@ -300,11 +314,5 @@ def _id_field(fields: QgsFields, name: str, title: str) -> QgsField:
 def _ids(layer: Layer, fields: QgsFields, name: str) -> List[Any]:
     if not name:
         return [feature.id() for feature in layer.features]
-    (place,) = _places(fields, [name])
+    (place,) = _places(fields, [name], layer)
     return [feature.attribute(place) for feature in layer.features]
-
-
-def _goes_on(share: float, feedback: QgsProcessingFeedback) -> bool:
-    """Shows the progress, unless the user has cancelled."""
-    feedback.setProgress(min(100.0, 100 * share))
-    return not feedback.isCanceled()

@@ -4,6 +4,8 @@ from __future__ import annotations
 from dataclasses import dataclass, field
 from enum import IntEnum
 from functools import cached_property
+from itertools import compress
+from math import isfinite
 from pathlib import Path
 from typing import TYPE_CHECKING, Any, List, NamedTuple, Sequence, Set
 
@@ -11,6 +13,7 @@ import numpy as np
 from qgis.core import (
     QgsFeature,
     QgsFeatureRequest,
+    QgsGeometry,
     QgsProcessingException,
     QgsProcessingFeatureSource,
     QgsProcessingFeedback,
@@ -87,7 +90,7 @@ class Layer:
         parts, self.parts = self.parts, []
         return columns.joined(parts) if parts else columns.nothing()
 
-    @cached_property
+    @property
     def has_shapes(self) -> bool:
         """Whether some are more than boxes."""
         return bool((self.columns.form != columns.BOX).any())
@@ -105,6 +108,16 @@ class Layer:
         """The numbers of the features that places in the coordinates belong to."""
         ends = np.cumsum(self.columns.size)
         return np.searchsorted(ends, places // 2, side="right")
+
+    def take_out(self, numbers: Places, reason: str) -> None:
+        """Leaves out features that were taken in."""
+        stays = np.ones(len(self.features), np.bool_)
+        stays[numbers] = False
+        moved = (np.cumsum(stays) - 1).tolist()
+        self.left_out += [LeftOut(self.features[number], reason) for number in numbers.tolist()]
+        self.features = list(compress(self.features, stays.tolist()))
+        self.columns = self.columns.chosen(stays)
+        self.envelopes = {moved[number] for number in self.envelopes if stays[number]}
 
     def add(self, features: List[QgsFeature]) -> None:
         """Takes features in or leaves them out."""
@@ -164,10 +177,8 @@ class Layer:
         self.left_out.append(LeftOut(feature, "an invalid polygon"))
 
     def _add_other(self, feature: QgsFeature, reason: str) -> None:
-        bounds = feature.geometry().boundingBox()
-        has_envelope = not bounds.isNull() and bounds.isFinite()
-        if self.rules.others == Others.ENVELOPE and has_envelope and (
-                not feature.geometry().isEmpty()):
+        if self.rules.others == Others.ENVELOPE and _has_envelope(feature.geometry()):
+            bounds = feature.geometry().boundingBox()
             self.envelopes.add(len(self.features))
             self._append([feature], columns.of_box(Box(
                 bounds.xMinimum(), bounds.yMinimum(), bounds.xMaximum(), bounds.yMaximum())))
@@ -179,10 +190,16 @@ class Layer:
             self.left_out.append(LeftOut(feature, reason))
 
 
-def read_layer(source: QgsProcessingFeatureSource, rules: Rules, feedback: QgsProcessingFeedback
-               ) -> Layer:
+def _has_envelope(geometry: QgsGeometry) -> bool:
+    """Whether there are points, and all are finite; QGIS has bounds that pass over some others."""
+    return not geometry.isEmpty() and all(
+        isfinite(point.x()) and isfinite(point.y()) for point in geometry.vertices())
+
+
+def read_layer(source: QgsProcessingFeatureSource, name: str, rules: Rules,
+               feedback: QgsProcessingFeedback) -> Layer:
     """Reads all features; the result is partial where the user has cancelled."""
-    layer = Layer(source.sourceName(), rules)
+    layer = Layer(name, rules)
     count = max(source.featureCount(), 1)
     flags = QgsProcessingFeatureSource.FlagSkipGeometryValidityChecks  # `Layer` has its own
     waiting: List[QgsFeature] = []
@@ -215,37 +232,62 @@ def tell(layer: Layer, has_list: bool, feedback: QgsProcessingFeedback) -> None:
     feedback.pushWarning(text)
 
 
-def common_decimals(layers: List[Layer], given: int | None, feedback: QgsProcessingFeedback
+def common_decimals(layers: Sequence[Layer], given: int | None, feedback: QgsProcessingFeedback
                     ) -> int:
-    """The decimals of a run: the given ones, else the fewest that write all exactly."""
-    decimals = given or 0
-    for layer in layers:
-        try:
-            if given is None:
-                decimals = units.fewest_decimals(layer.coordinates, decimals)
-            else:
-                _tell_rounded(layer, given, feedback)
-        except units.CoordinateError as fault:
-            raise QgsProcessingException(_text(
-                layer, fault, "; give the parameter Decimals (DECIMALS) to round to")) from fault
-    for layer in layers:
-        try:
-            units.check_limit(layer.coordinates, decimals)
-        except units.CoordinateError as fault:
-            raise QgsProcessingException(_text(
-                layer, fault, f" (decimals: {decimals})")) from fault
+    """The decimals of a run: the given ones, else the fewest that write all exactly. What is out of
+    range with these is left out, or ends the run."""
+    leave_out_far(layers, 0)
+    decimals = _fewest_decimals(layers) if given is None else given
+    leave_out_far(layers, decimals)
+    if given is not None:
+        for layer in layers:
+            _tell_rounded(layer, given, feedback)
     feedback.pushInfo(f"Decimals of the coordinates: {decimals}")
     return decimals
 
 
-def _text(layer: Layer, fault: units.CoordinateError, more: str) -> str:
-    (number,) = layer.features_at(np.array([fault.place]))
-    feature = layer.features[number]
-    return f"{layer.label(feature)}: coordinate {fault}{more}"
+def leave_out_far(layers: Sequence[Layer], decimals: int) -> None:
+    """Leaves out the features out of rjoin's range at these decimals, or ends the run at the first
+    of them. An envelope of such a feature is as far out."""
+    for layer in layers:
+        places = units.far_places(layer.coordinates, decimals)
+        if not places.size:
+            continue
+        if layer.rules.others == Others.STOP:
+            place = int(places[0])
+            number = float(layer.coordinates[place])
+            raise _fault_at(layer, place,
+                            units.far_text(number, decimals, most_decimals(layers)))
+        layer.take_out(np.unique(layer.features_at(places)), "a coordinate out of range"
+                       + f" with {decimals} decimals" * (decimals > 0))
+
+
+def most_decimals(layers: Sequence[Layer]) -> int:
+    """The most decimals at which all coordinates of all layers are in range."""
+    return min(units.most_decimals(layer.coordinates) for layer in layers)
+
+
+def _fewest_decimals(layers: Sequence[Layer]) -> int:
+    """The fewest decimals that write the coordinates of all layers exactly."""
+    decimals = 0
+    for layer in layers:
+        try:
+            decimals = units.fewest_decimals(layer.coordinates, decimals)
+        except units.CoordinateError as fault:
+            raise _fault_at(layer, fault.place,
+                            f"{fault}; give the parameter Decimals (DECIMALS) to round to, "
+                            f"at most {most_decimals(layers)}") from fault
+    return decimals
+
+
+def _fault_at(layer: Layer, place: int, text: str) -> QgsProcessingException:
+    """The fault of a coordinate, by its place."""
+    (number,) = layer.features_at(np.array([place]))
+    return QgsProcessingException(
+        f"{layer.label(layer.features[number])}: coordinate {text}")
 
 
 def _tell_rounded(layer: Layer, decimals: int, feedback: QgsProcessingFeedback) -> None:
-    units.check_limit(layer.coordinates, decimals)
     places = units.rounded_places(layer.coordinates, decimals)
     rounded = np.unique(layer.features_at(places))
     if rounded.size:

@@ -67,11 +67,11 @@ lists the features that rjoin can't read, and why.</p>""" + COMMON_HELP
         check_program(steps.feedback)
         source = self.source_of(parameters, "INPUT", context)
         feedback = steps.begin(f"Reading {source.sourceName()}")
-        layer = read_layer(source, self.rules_of(parameters, "INPUT", context), feedback)
-        steps.check_cancelled()
-        tell(layer, bool(parameters.get("LEFT_OUT")), feedback)
+        layer = read_layer(source, self.title_of("INPUT", source),
+                           self.rules_of(parameters, "INPUT", context), feedback)
         feedback = steps.begin("Counting")
-        decimals = common_decimals([layer], self.given_decimals(parameters, context), feedback)
+        decimals = common_decimals([layer], layer.rules.decimals, feedback)
+        tell(layer, bool(parameters.get("LEFT_OUT")), feedback)
         path, answer = folder / "layer.csv", folder / "statistics"
         write_layer(path, layer, decimals)
         program.run(["stats", str(path), *format_words([layer], decimals)], answer,

@@ -26,6 +26,7 @@ from .algorithm import (
     Steps,
     check_program,
     faults_shown,
+    system_name,
     with_fields,
 )
 from .answers import exact_field
@@ -84,11 +85,11 @@ many decimals as rjoin can read, and the log says so.</p>""" + COMMON_HELP
         extent = self._extent(parameters, context, source)
         feedback = steps.begin(f"Reading {source.sourceName()}")
         rules = self.rules_of(parameters, "INPUT", context)
-        layer = read_layer(source, rules, feedback)
-        steps.check_cancelled()
-        tell(layer, bool(parameters.get("LEFT_OUT")), feedback)
+        layer = read_layer(source, self.title_of("INPUT", source), rules, feedback)
         feedback = steps.begin("Searching the window")
-        found = _search(folder, layer, extent, feedback)
+        decimals = common_decimals([layer], rules.decimals, feedback)
+        tell(layer, bool(parameters.get("LEFT_OUT")), feedback)
+        found = _search(folder, layer, extent, decimals, feedback)
         feedback = steps.begin("Writing the output")
         envelopes = rules.others == Others.ENVELOPE
         if envelopes:
@@ -97,8 +98,7 @@ many decimals as rjoin can read, and the log says so.</p>""" + COMMON_HELP
         fields = with_fields(source.fields(), [exact_field()] if envelopes else [])
         output = self.sink_of(parameters, "OUTPUT", context, fields, source.sourceCrs(),
                               source.wkbType())
-        output.add(_chosen(layer, found, envelopes))
-        steps.check_cancelled()
+        output.add(_chosen(layer, found, envelopes), lambda done: steps.check_cancelled())
         return {**output.result(), "COUNT": len(found),
                 **self.write_left_out(parameters, "LEFT_OUT", context, source, layer)}
 
@@ -107,19 +107,19 @@ many decimals as rjoin can read, and the log says so.</p>""" + COMMON_HELP
         system = self.parameterAsExtentCrs(parameters, "WINDOW", context)
         if system.isValid() and source.sourceCrs().isValid() and system != source.sourceCrs():
             raise QgsProcessingException(
-                f"The window has the reference system {system.authid()} and the layer "
-                f"{source.sourceCrs().authid()}. Give the window in that of the layer.")
+                f"The reference systems differ: {system_name(system)} of the window, and "
+                f"{system_name(source.sourceCrs())} of the layer. Give the window in that of the "
+                "layer.")
         extent = self.parameterAsExtent(parameters, "WINDOW", context)
         if extent.isNull():
             raise QgsProcessingException("The window has no extent")
         return extent
 
 
-def _search(folder: Path, layer: Layer, extent: QgsRectangle, feedback: QgsProcessingFeedback
-            ) -> Set[int]:
+def _search(folder: Path, layer: Layer, extent: QgsRectangle, decimals: int,
+            feedback: QgsProcessingFeedback) -> Set[int]:
     """The numbers of the features that meet the window."""
     bounds = Box(extent.xMinimum(), extent.yMinimum(), extent.xMaximum(), extent.yMaximum())
-    decimals = common_decimals([layer], layer.rules.decimals, feedback)
     try:
         units.check_limit(bounds, decimals)
     except units.CoordinateError as fault:

@@ -3,7 +3,7 @@ from __future__ import annotations
 
 import re
 from abc import ABC, abstractmethod
-from decimal import ROUND_CEILING, Decimal
+from decimal import ROUND_HALF_UP, Decimal
 from typing import Iterator, List, NamedTuple, Optional, Sequence
 
 from . import program
@@ -14,6 +14,8 @@ RELATIONS = ("intersects", "touches", "crosses", "within", "contains", "overlaps
 NUMBER = re.compile(r"\d+(\.\d*)?|\.\d+")
 MOST_DECIMALS = 6
 LIMIT = 1_000_000_000_000
+# How many digits KLayout writes of a number of micrometres.
+DIGITS = 12
 DIMENSIONS = {"0": "points", "1": "lines", "2": "an area"}
 PARTS = ("interior", "boundary")
 
@@ -44,14 +46,14 @@ class Condition(ABC):
     column: str
 
     @abstractmethod
-    def words(self, layers: Sequence[Layer], dbu: float) -> List[str]:
+    def words(self, layers: Sequence[Layer]) -> List[str]:
         """The command of rjoin, and its options."""
 
     @abstractmethod
     def check(self) -> None:
         """Raises ProgramError where the program refuses the condition."""
 
-    def kept(self, rows: Iterator[Row], _layers: Sequence[Layer], _dbu: float) -> Iterator[Row]:
+    def kept(self, rows: Iterator[Row], _layers: Sequence[Layer]) -> Iterator[Row]:
         """The pairs of the report that belong to the answer."""
         return rows
 
@@ -59,7 +61,7 @@ class Condition(ABC):
         """The categories of a pair below that of the join."""
         return []
 
-    def values(self, _text: str, _dbu: float) -> List[str]:
+    def values(self, _text: str) -> List[str]:
         """More texts of a pair."""
         return []
 
@@ -79,7 +81,7 @@ class Relation(Condition):
         if refusal is not None:
             raise program.ProgramError(refusal)
 
-    def words(self, layers: Sequence[Layer], dbu: float) -> List[str]:
+    def words(self, layers: Sequence[Layer]) -> List[str]:
         return ["join", *self._asked()]
 
     def places(self, text: str) -> List[Place]:
@@ -101,63 +103,69 @@ def explained(matrix: str) -> str:
 
 
 class Space(Condition):
-    """Pairs that share no point and are closer than a spacing, which is in micrometres."""
+    """Pairs that share no point and are closer than a spacing.
+
+    `limit` is the spacing in database units, rounded to whole ones as KLayout's DRC rounds it.
+    """
 
     column = "distance"
 
-    def __init__(self, text: str) -> None:
+    def __init__(self, text: str, dbu: float) -> None:
         if not NUMBER.fullmatch(text) or Decimal(text) == 0:
             raise JoinError(f"space must be a number of micrometres above 0, not {text!r}")
-        self.space = Decimal(text)
-        self.title = f"closer than {self.space:f} um to"
-        self.about = f"shapes that share no point and are closer than {self.space:f} um"
+        space = Decimal(text)
+        self.unit = _unit(dbu)
+        self.limit = int((space / self.unit).to_integral_value(ROUND_HALF_UP))
+        if self.limit == 0:
+            raise JoinError(f"space must be at least half a database unit, which is {self.unit:f} "
+                            f"micrometres, not {text}")
+        self.title = f"closer than {space:f} um to"
+        self.about = f"shapes that share no point and are closer than {space:f} um"
 
     def check(self) -> None:
-        refusal = program.refusal(*self._asked("1"))
+        refusal = program.refusal(*self._asked())
         if refusal is not None:
             raise program.ProgramError(refusal)
 
-    def words(self, layers: Sequence[Layer], dbu: float) -> List[str]:
-        limit = self._limit(dbu)
-        decimals = _decimals(max(limit, *(layer.reach for layer in layers)))
-        up = limit.quantize(Decimal(1).scaleb(-decimals), ROUND_CEILING)
-        return [*self._asked(f"{up:f}"), "--scale", str(decimals)]
+    def words(self, layers: Sequence[Layer]) -> List[str]:
+        return [*self._asked(), "--scale", str(self._decimals(layers))]
 
-    def kept(self, rows: Iterator[Row], layers: Sequence[Layer], dbu: float) -> Iterator[Row]:
+    def kept(self, rows: Iterator[Row], layers: Sequence[Layer]) -> Iterator[Row]:
         """Those that are closer: the report has those too that are as far apart as the spacing, and
         its distance is rounded. Where that is about the spacing, the gap decides of boxes, and the
         rounded distance of others. Of a layer with itself each pair is kept once."""
         left, right = layers
-        limit = self._limit(dbu)
-        surely = limit - Decimal(1).scaleb(-_decimals(max(limit, left.reach, right.reach)))
+        surely = self.limit - Decimal(1).scaleb(-self._decimals(layers))
         for row in rows:
             if left is right and row.left >= row.right:
                 continue
             distance = Decimal(row.text)
             if distance <= surely or _is_closer(left.box(row.left), right.box(row.right), distance,
-                                                limit):
+                                                self.limit):
                 yield row
 
-    def values(self, text: str, dbu: float) -> List[str]:
-        distance = Decimal(text) * Decimal(str(dbu))
+    def values(self, text: str) -> List[str]:
+        distance = Decimal(text) * self.unit
         return [f"distance: {distance.normalize():f} um"]
 
-    def _limit(self, dbu: float) -> Decimal:
-        """The spacing in database units."""
-        return self.space / Decimal(str(dbu))
+    def _decimals(self, layers: Sequence[Layer]) -> int:
+        """As many decimals as the program's range allows for the spacing and the layers."""
+        reach = max(self.limit, *(layer.reach for layer in layers))
+        return max((decimals for decimals in range(MOST_DECIMALS + 1)
+                    if reach * 10**decimals <= LIMIT), default=0)
 
-    def _asked(self, distance: str) -> List[str]:
-        return ["near", f"--distance={distance}", "--apart"]
+    def _asked(self) -> List[str]:
+        return ["near", f"--distance={self.limit}", "--apart"]
 
 
-def _decimals(reach: Decimal) -> int:
-    """As many decimals as the program's range allows for numbers up to this one."""
-    return max((decimals for decimals in range(MOST_DECIMALS + 1)
-                if reach.scaleb(decimals) <= LIMIT), default=0)
+def _unit(dbu: float) -> Decimal:
+    """The database unit in micrometres, without the error that files give it: KLayout reads 0.001
+    from OASIS as 0.0009999999999999998."""
+    return Decimal(f"{dbu:.{DIGITS}g}")
 
 
 def _is_closer(one: Optional[Sequence[int]], other: Optional[Sequence[int]], distance: Decimal,
-               limit: Decimal) -> bool:
+               limit: int) -> bool:
     """Whether two shapes are closer than a limit, where their rounded distance is about that."""
     if one is None or other is None:
         return distance < limit

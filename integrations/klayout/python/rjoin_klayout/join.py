@@ -39,10 +39,11 @@ class Request(NamedTuple):
     space: str = ""
     reading: Reading = Reading()
 
-    def condition(self) -> Condition:
+    def condition(self, dbu: float) -> Condition:
+        """The condition, for a layout with this database unit."""
         if bool(self.relation) == bool(self.space):
             raise JoinError("one of relation and space is needed")
-        return Space(self.space) if self.space else Relation(self.relation)
+        return Space(self.space, dbu) if self.space else Relation(self.relation)
 
 
 def join_layers(layout: pya.Layout, cell: pya.Cell, request: Request) -> Report:
@@ -54,7 +55,7 @@ def join_layers(layout: pya.Layout, cell: pya.Cell, request: Request) -> Report:
                                  ("mode", request.reading.mode, MODES)):
         if value not in choices:
             raise JoinError(f"{name} must be one of {', '.join(choices)}")
-    condition = request.condition()
+    condition = request.condition(layout.dbu)
     condition.check()
     join = _Join(layout, cell, request, condition)
     with tempfile.TemporaryDirectory(prefix="rjoin-") as folder:
@@ -129,7 +130,7 @@ class _Join:
             paths = paths[0], paths[0]
         else:
             right.write(paths[1])
-        command, *words = self.condition.words(layers, self.layout.dbu)
+        command, *words = self.condition.words(layers)
         if not all(layer.is_of_boxes() for layer in layers):
             words += ["--geometry", "any", "--rings", "even-odd"]
         report = folder / "report.csv"
@@ -141,7 +142,7 @@ class _Join:
                        for layer, title in zip(layers, ("left", "right")))
         has_exact = self.request.reading.others == ENVELOPE
         places: Dict[str, Tuple[Category, str]] = {}
-        for row in self.condition.kept(rows, layers, self.layout.dbu):
+        for row in self.condition.kept(rows, layers):
             place = places.get(row.text)
             if place is None:
                 place = places[row.text] = self._place_of(row.text)
@@ -158,7 +159,7 @@ class _Join:
     def _place_of(self, text: str) -> Tuple[Category, str]:
         """The category of a pair by its matrix or distance, and the values that show these."""
         places = [self.about, *self.condition.places(text)]
-        values = map(text_value, self.condition.values(text, self.layout.dbu))
+        values = map(text_value, self.condition.values(text))
         return self.report.category(*places), "".join(values)
 
     def _add_left_out(self, cell: pya.Cell, layer: Layer) -> None:

@@ -2,7 +2,6 @@
 from __future__ import annotations
 
 from dataclasses import dataclass, field
-from decimal import Decimal
 from pathlib import Path
 from typing import List, NamedTuple, Optional, Set, Tuple
 
@@ -12,11 +11,11 @@ from .shapes import (
     Bounds,
     Geometry,
     NotRead,
+    area_of,
     bounds_of,
     envelope_of,
     geometry_of,
     geometry_of_merged,
-    has_area,
     merged_areas,
     merged_wkt,
     texts_of,
@@ -79,7 +78,7 @@ class Layer:
 
     name: str
     cell: str
-    reach: Decimal
+    reach: int
     rectangles: List[Bounds] = field(default_factory=list)
     areas: List[str] = field(default_factory=list)
     drawn: List[Placed] = field(default_factory=list)
@@ -145,11 +144,11 @@ def read_layer(layout: pya.Layout, cell: pya.Cell, name: str, reading: Reading) 
     return layer
 
 
-def _reach(box: pya.Box) -> Decimal:
+def _reach(box: pya.Box) -> int:
     if box.empty():
-        return Decimal(0)
+        return 0
     sides: Tuple[int, ...] = (box.left, box.bottom, box.right, box.top)
-    return Decimal(max(abs(side) for side in sides))
+    return max(abs(side) for side in sides)
 
 
 def _shapes(cell: pya.Cell, index: int, reading: Reading, kinds: int = pya.Shapes.SAll
@@ -177,10 +176,11 @@ def _add_all(layer: Layer, shapes: pya.RecursiveShapeIterator, reading: Reading)
     areas = pya.Region()
     while not shapes.at_end():
         shape, trans = shapes.shape(), shapes.trans()
-        if reading.merged and has_area(shape):
-            areas.insert(shape.polygon.transformed(trans))
-        else:
+        area = area_of(shape, trans) if reading.merged else None
+        if area is None:
             _add(layer, shape, shapes.cell().name, trans, reading.others)
+        else:
+            areas.insert(area)
         shapes.next()
     return areas
 

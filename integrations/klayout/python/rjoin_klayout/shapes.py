@@ -4,7 +4,7 @@ from __future__ import annotations
 import struct
 import tempfile
 from pathlib import Path
-from typing import Iterator, List, NamedTuple, Tuple, Union, cast
+from typing import Iterator, List, NamedTuple, Optional, Tuple, Union, cast
 
 import pya
 
@@ -86,10 +86,10 @@ def areas_of(polygon: pya.Polygon) -> List[pya.Polygon]:
     """The polygon alone, unless KLayout makes others of it: where it overlaps itself, and where
     cut lines lead to its holes."""
     if polygon.num_points() == TRIANGLE:
-        return [polygon] if polygon.area() > 0 else []
+        return [polygon] if polygon.area2() > 0 else []
     merged = list(merged_areas(pya.Region(polygon)).each())
     is_same = len(merged) == 1 and (
-        merged[0].area() == polygon.area() and merged[0].holes() == polygon.holes())
+        merged[0].area2() == polygon.area2() and merged[0].holes() == polygon.holes())
     return [polygon] if is_same else merged
 
 
@@ -153,9 +153,14 @@ def is_area(shape: pya.Shape) -> bool:
                 or shape.is_path())
 
 
-def has_area(shape: pya.Shape) -> bool:
-    """Whether the shape covers an area, so that it can be merged with others."""
-    return is_area(shape) and bool(shape.polygon.area() > 0)
+def area_of(shape: pya.Shape, trans: pya.ICplxTrans) -> Optional[pya.Polygon]:
+    """The polygon of a shape below a transformation, unless it covers no area; it can be merged
+    with others. What the two sides of a bow-tie cover counts with opposite signs in its own area.
+    """
+    if not is_area(shape):
+        return None
+    polygon = shape.polygon.transformed(trans)
+    return polygon if polygon.area2() > 0 or pya.Region(polygon).area() > 0 else None
 
 
 def _path(path: pya.Path, trans: pya.ICplxTrans) -> Geometry:
