@@ -21,7 +21,6 @@ import subprocess
 import sys
 import tempfile
 from collections.abc import Iterator
-from functools import partial
 from itertools import chain, product
 from pathlib import Path
 
@@ -29,6 +28,7 @@ import any_layers
 import box_layers
 import plain_distances
 import plain_joins
+import stored_runs
 from any_layers import NAMES, Join
 from geometry_distances import rounded_root, square_of
 from plain_joins import ROOT
@@ -103,20 +103,14 @@ def wrong(ended: Ended, awaited: bytes) -> str | None:
 
 def stored() -> Iterator[tuple[str, str | None]]:
     """The plain answers for the runs whose answers were written by hand."""
-    for folder in sorted((ROOT / "check/runs").iterdir()):
-        words = (folder / "args").read_text(encoding="utf-8", errors="surrogateescape").splitlines()
+    for run in stored_runs.stored():
         # The plain programs read whole layers; stored_runs.py compares runs that leave rows out.
-        reads_all = not any(word.startswith("--skip") for word in words)
-        if words[0] in PLAIN and reads_all and not (folder / "status").exists():
+        reads_all = not any(word.startswith("--skip") for word in run.words)
+        if run.words[0] in PLAIN and reads_all and not run.status:
             # plain_distances.py reads boxes alone.
-            plain = plain_joins.answer if "any" in words else PLAIN[words[0]]
-            report = plain(words, partial(file_of, folder))
-            yield folder.name, parted(report, (folder / "stdout").read_bytes())
-
-
-def file_of(folder: Path, path: str) -> bytes:
-    """The file at a path of a stored run."""
-    return (folder / ("stdin" if path == "-" else f"files/{path}")).read_bytes()
+            plain = plain_joins.answer if "any" in run.words else PLAIN[run.words[0]]
+            report = plain(run.words, {**run.files, "-": run.stdin}.__getitem__)
+            yield run.name, parted(report, run.stdout)
 
 
 def reading_of(join: Join) -> list[str]:

@@ -6,6 +6,7 @@ import random
 from collections.abc import Callable, Iterator
 from math import isqrt
 
+Vertex = tuple[int, int]
 Box = tuple[int, int, int, int]
 Boxes = Iterator[Box]
 Making = Callable[[int, random.Random], Boxes]
@@ -98,19 +99,31 @@ KINDS: dict[str, tuple[Making, Making]] = {
 
 
 def text_of(box: Box, source: random.Random) -> str:
-    """The well-known text, from either end of a segment and any corner of a rectangle, in either direction."""
+    """The well-known text, from either end of a segment and any point of a ring, in either direction. Some have further
+    points along their sides, of which some stand twice."""
     x1, y1, x2, y2 = box
     if (x1, y1) == (x2, y2):
         return f"POINT ({x1} {y1})"
     corners = [(x1, y1), (x2, y1), (x2, y2), (x1, y2)] if x1 < x2 and y1 < y2 else [(x1, y1), (x2, y2)]
-    at = source.randrange(len(corners))
-    corners = (corners[at:] + corners[:at])[::source.choice((1, -1))]
+    corners = corners[::source.choice((1, -1))]
     if len(corners) == 2:
-        return f"LINESTRING ({listed(corners)})"
-    return f"POLYGON (({listed([*corners, corners[0]])}))"
+        start, end = corners
+        return f"LINESTRING ({listed([*side_points(start, end, source), end])})"
+    sides = zip(corners, corners[1:] + corners[:1])
+    ring = [it for start, end in sides for it in side_points(start, end, source)]
+    at = source.randrange(len(ring))
+    return f"POLYGON (({listed([*ring[at:], *ring[:at], ring[at]])}))"
 
 
-def listed(vertices: list[tuple[int, int]]) -> str:
+def side_points(start: Vertex, end: Vertex, source: random.Random) -> list[Vertex]:
+    """The start of a side, and at times one more point of it."""
+    if source.random() < 0.8:
+        return [start]
+    (x1, y1), (x2, y2) = start, end
+    return [start, (source.randint(min(x1, x2), max(x1, x2)), source.randint(min(y1, y2), max(y1, y2)))]
+
+
+def listed(vertices: list[Vertex]) -> str:
     return ", ".join(f"{x} {y}" for x, y in vertices)
 
 

@@ -1,4 +1,4 @@
-"""Checks of the launcher `rjoin` at the root of a checkout, with a `make` that builds nothing."""
+"""Checks of the launcher `rjoin` at the root of a checkout, with a `tools/build` that proves nothing."""
 import os
 import shutil
 from pathlib import Path
@@ -16,9 +16,10 @@ HOUR = 3600
 
 
 class Checkout:
-    """A copy of what the launcher reads, with an old program, sources that are older still, and a `make`."""
+    """A copy of what the launcher reads, with an old program, sources that are older still, and a
+    `tools/build`."""
 
-    def __init__(self, room: Path, make: str) -> None:
+    def __init__(self, room: Path, build: str) -> None:
         self.top, self.calls, self.source = room / "checkout", room / "calls", room / "checkout/crates/one/src/lib.rt"
         self.program, self.built = self.top / "crates/rjoin/out/rjoin", self.top / "out/built"
         shutil.rmtree(room, ignore_errors=True)
@@ -28,8 +29,8 @@ class Checkout:
         self.write(self.source.with_name("other.rt"), "// other\n", 3)
         self.write(self.program, OLD, 2)
         self.write(self.built, "", 2)
-        for name, text in (("make", make), ("rt", "#!/bin/sh\n")):
-            self.write(room / "bin" / name, text, 3)
+        self.write(self.top / "tools/build", build, 3)
+        self.write(room / "bin/rt", "#!/bin/sh\n", 3)
         self.age(3)
         path = f"{room}/bin:{os.environ['PATH']}"
         self.env = {**os.environ, "PATH": path, "CALLS": str(self.calls), "PROGRAM": str(self.program)}
@@ -53,13 +54,13 @@ class Checkout:
         return ran(self.top / "rjoin", "stats", "-", env=env or self.env)
 
     def times_called(self) -> int:
-        """How often make was called."""
+        """How often tools/build was called."""
         return len(self.calls.read_text(encoding="utf-8").splitlines()) if self.calls.exists() else 0
 
 
 def a_failed_build_runs_no_program(it: Tried) -> None:
-    for make in (FAILS, IS_STOPPED):
-        checkout = Checkout(it.room / "failed", make)
+    for build in (FAILS, IS_STOPPED):
+        checkout = Checkout(it.room / "failed", build)
         checkout.source.touch()
         for times in (1, 2):
             made = checkout.run()
@@ -88,7 +89,7 @@ def a_build_without_its_tools_runs_no_program(it: Tried) -> None:
     (it.room / "bare/bin/rt").unlink()
     tools = it.room / "bare/tools"
     tools.mkdir()
-    for name in ("bash", "dirname", "find", "make", "env"):
+    for name in ("bash", "dirname", "find", "env"):
         found = shutil.which(name)
         assert found
         (tools / name).symlink_to(found)

@@ -1,6 +1,7 @@
 """Runs the parts of the gate, each to its end whatever became of those before.
 
-    .ci/run [PART..]     these parts, or all; `.ci/run --list` names them
+    .ci/run [PART..]           these parts, or all; `.ci/run --list` names them
+    .ci/run --all [PART..]     the same, where parts that try a choice of much try all of it, in up to twice the time
 
 As root it first installs what the parts need of Debian's packages, and then proves. After the proofs two lanes run side
 by side: the mutants, which take all processors, and the parts that mostly need one processor or wait for input. The
@@ -33,7 +34,7 @@ from typing import BinaryIO
 ROOT = Path(__file__).resolve().parent.parent
 PROGRAM = ROOT / "crates/rjoin/out/rjoin"
 # The whole has to end before those who run it lose patience.
-MOST_MINUTES = 175
+MOST_MINUTES = 170
 # How long what is stopped may take to end.
 GRACE_SECONDS = 20
 # How long the lanes may print nothing before a line says which parts run.
@@ -69,6 +70,8 @@ class Part:
     lane: Lane = Lane.FIRST
     # Whether a status other than 0 means that the part couldn't be run, and not that it failed.
     may_be_skipped: bool = False
+    # The command by which the part tries all, where the one above tries a choice.
+    whole: tuple[str, ...] = ()
 
 
 @dataclass
@@ -88,17 +91,18 @@ class Result:
 STEADY = "not test_failures and not test_two_networks"
 PARTS = (
     Part("packages", ("check/install.py",), 20, may_be_skipped=True),
-    Part("proofs", ("rt", "ci"), 115),
+    Part("proofs", ("check/proofs.py",), 115),
     Part("faults", ("check/faults.py",), 2),
     Part("definitions", ("check/definitions.py", "--check"), 2),
     Part("guarantees", ("check/guarantees.py",), 2),
     Part("readmes", ("check/readmes.py",), 2),
-    Part("mutants", ("check/mutants.py",), 80, Lane.HEAVY),
-    Part("tested-mutants", ("check/tested_mutants.py", "--changed"), 30, Lane.HEAVY),
+    Part("mutants", ("check/mutants.py", "--changed"), 80, Lane.HEAVY, whole=("check/mutants.py",)),
+    Part("tested-mutants", ("check/tested_mutants.py", "--changed"), 45, Lane.HEAVY,
+         whole=("check/tested_mutants.py",)),
     Part("stored-runs", ("check/stored_runs.py",), 15, Lane.LIGHT),
     Part("refusals", ("check/refusals.py",), 45, Lane.LIGHT),
-    Part("reference", ("check/reference.sh",), 15, Lane.LIGHT),
-    Part("any-joins", ("check/any_joins.py",), 15, Lane.LIGHT),
+    Part("reference", ("check/reference.sh",), 15, Lane.LIGHT, whole=("check/reference.sh", "--all")),
+    Part("any-joins", ("check/any_joins.py",), 20, Lane.LIGHT),
     Part("smoke", ("bench/smoke", str(PROGRAM)), 10, Lane.LIGHT),
     Part("gate", ("python3", "check/test_gate.py"), 5, Lane.LIGHT),
     Part("packaging", ("check/packages.py", "--by-ci"), 40, Lane.LIGHT),
@@ -335,13 +339,13 @@ def table(results: list[Result], seconds: float) -> Iterator[str]:
     yield f"{passed} passed, {failed} failed, {skipped} skipped"
 
 
-def gate(parts: list[Part]) -> int:
-    """Runs the parts and tells how they ended."""
+def gate(parts: list[Part], minutes: float = MOST_MINUTES) -> int:
+    """Runs the parts, in so many minutes at most, and tells how they ended."""
     own_what_is_left()
     signal.signal(signal.SIGTERM, lambda *_: sys.exit(143))
     began = time.monotonic()
     try:
-        results = run_all(parts, began + 60 * MOST_MINUTES)
+        results = run_all(parts, began + 60 * minutes)
     finally:
         stop_what_is_left()
     print("", *table(results, time.monotonic() - began), sep="\n", flush=True)
@@ -352,11 +356,15 @@ def main(words: list[str]) -> int:
     if words == ["--list"]:
         print(*(f"{part.name:16} {' '.join(part.words)}" for part in PARTS), sep="\n")
         return 0
-    unknown = set(words) - {part.name for part in PARTS}
+    names = [it for it in words if it != "--all"]
+    unknown = set(names) - {part.name for part in PARTS}
     if unknown:
         print(f"no part {' '.join(sorted(unknown))}; .ci/run --list names them", file=sys.stderr)
         return 2
-    return gate([part for part in PARTS if not words or part.name in words])
+    parts = [part for part in PARTS if not names or part.name in names]
+    if "--all" not in words:
+        return gate(parts)
+    return gate([replace(it, words=it.whole or it.words, minutes=2 * it.minutes) for it in parts], 2 * MOST_MINUTES)
 
 
 if __name__ == "__main__":

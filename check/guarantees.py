@@ -1,8 +1,8 @@
 #!/usr/bin/env python3
 """Compares the calls and clauses that GUARANTEES.md names with the contracts in the sources, both ways.
 
-    check/guarantees.py       the status is 1 where the page names a call or a clause that isn't there, or leaves one
-                                out
+    check/guarantees.py       the status is 1 where the page names a call or a clause that isn't there, names a clause
+                                twice, or leaves one out
 
 A line "- `CALL`, `CALL`: `clause` what it says; `clause` and `clause` what they say" stands below its crate's heading.
 Each call has each of the clauses; where no clause is named, the call has one, without a name. Several lines may name
@@ -57,15 +57,18 @@ def main() -> int:
             wrong.append(f"not in {crate}: {call}")
             continue
         for clause in clauses or [""]:
+            shown = f"clause {clause}" if clause else "a clause without a name"
             named += 1
-            listed[crate, call].add(clause)
             if clause not in calls[crate, call]:
-                wrong.append(f"not of {call} in {crate}: {f'clause {clause}' if clause else 'a clause without a name'}")
+                wrong.append(f"not of {call} in {crate}: {shown}")
+            if clause in listed[crate, call]:
+                wrong.append(f"twice of {call} in {crate}: {shown}")
+            listed[crate, call].add(clause)
     for (crate, call), clauses in calls.items():
         wrong += unlisted(crate, call, clauses, listed[crate, call])
     for line in wrong:
         print(line)
-    print(f"guarantees: {named} clauses named, {len(wrong)} aren't there or are left out")
+    print(f"guarantees: {named} clauses named, {len(wrong)} aren't there, stand twice or are left out")
     return 1 if wrong else 0
 
 

@@ -23,6 +23,9 @@ Each mutant has to be refused at its clause, and nothing else may be that is che
 functions call, or the whole crate where a mutant is in a cycle of calls.
 
     check/mutants.py [NAME..]                of these crates, or of all; CRATE/MUTANT names one mutant
+    check/mutants.py --changed               of the crates that changed since the base (changes.py), and of those that
+                                        rest on a crate whose definitions or statements did: what other crates can see
+                                        of it; of the others a tenth; all where how they are tried changed
     check/mutants.py --unchanged [NAME..]    with nothing changed: each function that has mutants, and each of its
                                         copies, has to be proved, so that how they are made refuses none
 
@@ -36,19 +39,22 @@ import shutil
 import subprocess
 import sys
 import tempfile
-from collections.abc import Iterator
+from collections.abc import Iterable, Iterator
 from concurrent.futures import ThreadPoolExecutor
 from contextlib import contextmanager
 from dataclasses import dataclass, field, replace
 from glob import glob
 from typing import NamedTuple
 
+from changes import Changes, chosen
 from edits import BadEdit, Change, Texts, applied, edit_of, read
 from stubs import admitted, hole_of, is_fixed, stubbed
 
 ROOT = os.path.dirname(os.path.dirname(os.path.abspath(__file__)))
 KIT = os.path.dirname(subprocess.run(["rt", "doc"], capture_output=True, text=True, check=True).stdout.strip())
 PARTS = ("src", "specs", "proofs")
+# The files that every verdict rests on, as Git's paths.
+OF_ALL = {"check/mutants.py", "check/edits.py", "check/stubs.py"}
 Uses = dict[str, list[str]]
 
 
@@ -398,24 +404,46 @@ def tried(crate: str, of: Uses, groups: list[Group]) -> list[Answer]:
     return reported
 
 
+def names_of(crate: str) -> list[str]:
+    """Returns the names of the mutants of a crate."""
+    return sorted(it.removesuffix(".edit") for it in glob("*.edit", root_dir=f"{ROOT}/crates/{crate}/mutants"))
+
+
 def mutants_of(crate: str, names: list[str]) -> list[Mutant]:
-    """Returns the mutants of these names in a crate, or all where there is no name."""
-    folder = f"{ROOT}/crates/{crate}/mutants"
-    edits = [f"{it}.edit" for it in names] or sorted(glob("*.edit", root_dir=folder))
-    return [mutant_of(f"{folder}/{it}") for it in edits]
+    return [mutant_of(f"{ROOT}/crates/{crate}/mutants/{it}.edit") for it in names]
+
+
+def named(words: list[str], crates: Iterable[str]) -> dict[str, list[str]]:
+    """Returns the mutants that these words name, by their crates: those of a crate, or one of them."""
+    found: dict[str, list[str]] = {}
+    for word in words or crates:
+        crate, _, name = word.partition("/")
+        found.setdefault(crate, []).extend([name] if name else names_of(crate))
+    return found
+
+
+def wanted(words: list[str], of: Uses) -> dict[str, list[str]]:
+    """Returns the mutants that are to be tried, by their crates. The upper crates take longest, so they come first."""
+    found = named([it for it in words if not it.startswith("--")], reversed(of))
+    if "--changed" not in words:
+        return found
+    every = [f"{crate}/{name}" for crate, names in found.items() for name in names]
+
+    def touched(changes: Changes) -> set[str]:
+        crates = changes.crates(*PARTS, "mutants") | changes.beneath()
+        return {it for it in every if it.split("/")[0] in crates}
+
+    some, why = chosen(every, OF_ALL, touched)
+    print(f"{len(some)} of {len(every)} mutants are tried: {why}", flush=True)
+    return named(some, ())
 
 
 def main(words: list[str]) -> int:
     of = dependencies()
     groups: dict[str, list[Group]] = {}
     answers: list[Answer] = []
-    wanted: dict[str, list[str]] = {}
     is_unchanged = "--unchanged" in words
-    # the upper crates take longest, so they come first
-    for word in [it for it in words if it != "--unchanged"] or list(reversed(of)):
-        crate, _, name = word.partition("/")
-        wanted.setdefault(crate, []).extend([name] if name else [])
-    for crate, names in wanted.items():
+    for crate, names in wanted(words, of).items():
         try:
             mutants = [it.unchanged() if is_unchanged else it for it in mutants_of(crate, names)]
             groups[crate] = grouped(f"{ROOT}/crates/{crate}", mutants)

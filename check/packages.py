@@ -44,6 +44,9 @@ _rjoin "$program"
 printf '%s\\n' "${COMPREPLY[@]}"
 """
 LINK = re.compile(r"\]\((?!https?:|#)([^)#]+)")
+# Scripts that pages name, and those of them that they say a checkout alone has.
+SCRIPT = re.compile(r"\b(?:recipes|integrations)/[\w./-]*\w")
+OF_CHECKOUT = {"recipes/tiles"}
 # Papers that exist in the sources alone, to which the packages may refer.
 OUTSIDE = {"LICENSE", "CONTRIBUTING.md", "../CONTRIBUTING.md", "../LICENSE"}
 PAPERS = {
@@ -65,7 +68,7 @@ INSTALLED = {
                       "share/man/man1/rjoin-cluster.1.gz"),
     "rjoin-integrations": ("bin/rjoin-postgis", "share/qgis/python/plugins/rjoin_processing/metadata.txt",
                            "lib/klayout/salt/rjoin/pymacros/join_layers.lym", "lib/klayout/salt/rjoin/grain.xml",
-                           "share/man/man1/rjoin-postgis.1.gz", "share/rjoin/recipes/from-ogr"),
+                           "share/man/man1/rjoin-postgis.1.gz"),
 }
 FORMAT_OPTIONS = {"--geometry", "--rings", "--scale", "--round", "--help"}
 LAYER_OPTIONS = {"--edits", "--workers", "--batch", "--cut"}
@@ -165,6 +168,18 @@ def packages_hold_what_their_pages_show(it: Tried) -> None:
             for link in LINK.findall((folders[name] / DOCS / page).read_text(encoding="utf-8")):
                 there = [folder / DOCS / Path(page).parent / link for folder in folders.values()]
                 expect(any(path.exists() for path in there) or link in OUTSIDE, f"{page}: {link}")
+
+
+def packages_hold_the_scripts_that_their_pages_name(it: Tried) -> None:
+    """The pages name the folder of tasks, whose scripts read layers by a module beside it."""
+    usr = unpacked_packages(it)["rjoin-integrations"]
+    for page in sorted(PAPERS["rjoin-integrations"] | PAPERS["python3-rjoin"] | {"docs/INSTALL.md"}):
+        named = SCRIPT.findall((ROOT / page).read_text(encoding="utf-8")) if page.endswith(".md") else []
+        missing = {name for name in named if not (usr / "share/rjoin" / name).exists()} - OF_CHECKOUT
+        expect(not missing, (page, missing))
+    tasks = output_of("git", "ls-files", "recipes/tasks").splitlines()
+    for name in (*tasks, "recipes/debian_layers.py"):
+        expect((usr / "share/rjoin" / name).is_file(), name)
 
 
 def packages_hold_what_hosts_look_for(it: Tried) -> None:
@@ -307,7 +322,8 @@ def scripts_pass_shellcheck(it: Tried) -> None:
 OFFLINE: tuple[Check, ...] = (
     version_is_that_of_the_changelog, second_build_has_the_same_bytes, a_program_without_proof_is_refused,
     lintian_finds_no_error, the_library_is_named_as_a_dependency, packages_depend_on_one_another,
-    packages_hold_what_their_pages_show, packages_hold_what_hosts_look_for, package_joins,
+    packages_hold_what_their_pages_show, packages_hold_the_scripts_that_their_pages_name,
+    packages_hold_what_hosts_look_for, package_joins,
     tarball_joins_from_any_folder, tarball_has_the_files_of_the_package, version_tells_the_commit,
     launcher_passes_words_and_tunables, launcher_keeps_input_faults_and_status, manual_has_all_of_the_help,
     completion_offers_what_the_help_lists, proved_names_program_toolchain_and_commit, pages_are_there,

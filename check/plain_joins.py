@@ -23,7 +23,7 @@ from itertools import combinations
 from pathlib import Path
 
 ROOT = Path(__file__).resolve().parent.parent
-sys.path.append(str(ROOT / "crates/plane_tests/reference"))
+sys.path.append(str(ROOT / "crates/shape_tests/reference"))
 
 from matrix import AREAS, LINES, POINTS, Edge, Geometry, Vertex, matrix, meeting  # noqa: E402
 from pairs import stepped  # noqa: E402

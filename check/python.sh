@@ -9,7 +9,7 @@ set -u
 export PATH=/usr/bin:/bin:$PATH
 root=$(cd "$(dirname "${BASH_SOURCE[0]}")/.." && pwd)
 here=$root/python
-reference=$root/crates/plane_tests/reference
+reference=$root/crates/shape_tests/reference
 python=${PYTHON:-/usr/bin/python3}
 work=$(mktemp -d)
 trap 'rm -rf "$work"' EXIT
@@ -132,7 +132,7 @@ for folder in src "${folders[@]##*/}"; do
 done
 tool style flake8 --max-line-length 100 --extend-ignore E203 "$here/src" "${folders[@]}"
 all=()
-for folder in bench check crates/plane_tests/reference packaging tools; do
+for folder in bench check crates/shape_tests/reference packaging tools; do
     mapfile -t files < <(scripts "$folder")
     types "the scripts in $folder" "${files[@]}"
     all+=("${files[@]}")

@@ -62,6 +62,8 @@ def pairs_of(text: str) -> list[tuple[str, ...]]:
 
 
 def same(name: str, ours: Sequence[tuple[str, ...]], theirs: Sequence[tuple[str, ...]]) -> None:
+    if not theirs:
+        raise Differs(f"{name}: the tool finds no pairs")
     if ours != theirs:
         mine, other = [pair for pair in ours if pair not in theirs], [pair for pair in theirs if pair not in ours]
         raise Differs(f"{name}: {len(ours)} pairs against {len(theirs)}; only ours {mine[:3]}, theirs {other[:3]}")
@@ -90,14 +92,14 @@ def rjoin(left: str | Path, right: Path, relation: str, *more: str, text: str | 
 
 LOAD = "create table {name} (id text, geom geometry)"
 COPY = "\\copy {name} from '{path}' csv header"
-SHIFT = "update {name} set geom = ST_Scale(geom, 0.25, 0.25)"
+SHIFT = "update {name} set geom = ST_Force3D(ST_Scale(geom, 0.25, 0.25))"
 MINE = "select left_id, right_id, matrix from {table} order by 1, 2"
 THEIRS = ("select l.id, r.id, ST_Relate(l.geom, r.geom) from {left} l join {right} r on ST_{relation}(l.geom, r.geom)"
           " order by 1, 2")
 
 
 def check_postgis(folder: str) -> None:
-    """The town at a quarter of its size, so that coordinates have up to two decimals."""
+    """The town at a quarter of its size, so that coordinates have up to two decimals, and with heights."""
     need("psql")
     try:
         output_of(RECIPES / "with-postgres", "psql", "-qX", "-c", "create extension postgis")
@@ -111,7 +113,8 @@ def inside_postgis() -> None:
     with tempfile.TemporaryDirectory() as folder:
         psql("create extension postgis")
         for path in sorted(TOWN.glob("*.csv")):
-            psql(LOAD.format(name=path.stem), COPY.format(name=path.stem, path=path), SHIFT.format(name=path.stem))
+            psql(LOAD.format(name=path.stem), COPY.format(name=path.stem, path=path), SHIFT.format(name=path.stem),
+                 f"insert into {path.stem} values ('nowhere', null)")
             layer = output_of(RECIPES / "from-postgis", path.stem, "id", "geom", "2")
             Path(folder, path.name).write_text(layer, encoding="utf-8")
         for number, (left, right, relation) in enumerate(JOINS):
@@ -132,7 +135,18 @@ SOURCE = """<OGRVRTDataSource><OGRVRTLayer name="{name}"><SrcDataSource>{path}</
 <GeometryType>wkb{kind}</GeometryType><GeometryField encoding="WKT" field="wkt"/></OGRVRTLayer></OGRVRTDataSource>
 """
 KINDS = {"parcels": "Polygon", "roads": "LineString", "stations": "Point"}
-OWN_JOIN = ("select l.id, r.id, ST_Relate(l.geom, r.geom) from {left} l, {right} r"
+# Yards of several parts with heights, and one that touches itself nowhere; GDAL makes their geometry of a field.
+YARDS = """id,wkt
+both,"MULTIPOLYGON Z (((0 0 1, 10 0 1, 10 15 1, 0 15 1, 0 0 1)), ((20 0 2, 30 0 2, 30 15.25 2, 20 15.25 2, 20 0 2)))"
+slanted,"MULTIPOLYGON Z (((10 0 3, 20 0 3, 15 9.5 3, 10 0 3)))"
+beside,"MULTIPOLYGON Z (((30 0 4, 35 5 4, 30 10 4, 30 0 4)), ((10 100 4, 20 100 4, 20 110 4, 10 100 4)))"
+"""
+YARD_JOINS: tuple[Join, ...] = (
+    ("yards", "parcels", "overlaps"),
+    ("yards", "roads", "touches"),
+    ("yards", "yards", "touches"),
+)
+OWN_JOIN = ("select l.id as left_id, r.id as right_id, ST_Relate(l.geom, r.geom) from {left} l, {right} r"
             " where ST_{relation}(l.geom, r.geom) = 1")
 
 
@@ -144,34 +158,48 @@ def need_spatialite() -> None:
 
 
 def check_gdal(folder: str) -> None:
-    """The town as a GeoPackage with areas of several parts, and as Shapefiles; the left layer goes through a pipe."""
+    """The town and yards of several parts as a GeoPackage and as Shapefiles; the left layer goes through a pipe."""
     need("ogr2ogr")
     need_spatialite()
     package = make_package(folder)
     output_of("ogr2ogr", "-f", "ESRI Shapefile", f"{folder}/shapes", package)
+    check_refusals_of_gdal(package)
     for source in (package, f"{folder}/shapes"):
-        layers = {name: output_of(RECIPES / "from-ogr", source, name, "id") for name in KINDS}
-        for left, right, relation in JOINS:
+        layers = {name: output_of(RECIPES / "from-ogr", source, name, "id") for name in (*KINDS, "yards")}
+        for left, right, relation in (*JOINS, *YARD_JOINS):
             if left in layers and right in layers:
                 check_with_gdal(folder, package, layers, (left, right, relation))
+    by_vrt, by_package = (output_of(RECIPES / "from-ogr", source, "yards", "id")
+                          for source in (f"{folder}/yards.vrt", package))
+    if by_vrt != by_package:
+        raise Differs("the yards of a VRT")
+
+
+def check_refusals_of_gdal(package: str) -> None:
+    """A field or a layer that isn't there is a fault, and no layer of its name or without rows."""
+    for words in (("parcels", "nothing"), ("nothing", "id"), ("parcels", "id", "2")):
+        ended = subprocess.run([RECIPES / "from-ogr", package, *words], capture_output=True, text=True)
+        if ended.returncode == 0 or ended.stdout or not ended.stderr:
+            raise Differs(f"from-ogr {' '.join(words)} wrote {ended.stdout[:80]!r} and {ended.stderr[:80]!r}")
 
 
 def make_package(folder: str) -> str:
-    package = f"{folder}/town.gpkg"
-    for name, kind in KINDS.items():
-        source = Path(folder, f"{name}.vrt")
-        source.write_text(SOURCE.format(name=name, path=TOWN / f"{name}.csv", kind=kind), encoding="utf-8")
+    """Areas are declared as of several parts, as in most GeoPackages."""
+    package, yards = f"{folder}/town.gpkg", write(folder, "yards.csv", YARDS)
+    paths = {**{name: TOWN / f"{name}.csv" for name in KINDS}, "yards": yards}
+    for name, path in paths.items():
+        kind = KINDS.get(name, "MultiPolygon25D")
+        source = write(folder, f"{name}.vrt", SOURCE.format(name=name, path=path, kind=kind))
         several = "MULTIPOLYGON" if kind == "Polygon" else kind.upper()
         output_of("ogr2ogr", "-f", "GPKG", *(["-update"] if Path(package).exists() else []), package, source,
-                  "-nln", name, "-nlt", several, "-select", "id")
+                  "-nln", name, "-nlt", several)
     return package
 
 
 def check_with_gdal(folder: str, package: str, layers: dict[str, str], join: Join) -> None:
     left, right, relation = join
-    path = Path(folder, "right.csv")
-    path.write_text(layers[right], encoding="utf-8")
-    ours = rjoin("-", path, relation, text=layers[left])
+    path = write(folder, "right.csv", layers[right])
+    ours = rjoin("-", path, relation, "--geometry", "any", "--scale", "2", text=layers[left])
     query = OWN_JOIN.format(left=left, right=right, relation=relation.capitalize())
     theirs = output_of("ogr2ogr", "-q", "-f", "CSV", "/vsistdout/", package, "-dialect", "SQLite", "-sql", query)
     same(f"{left} {relation} {right}", pairs_of(ours), pairs_of(theirs))

@@ -1,6 +1,6 @@
 #!/usr/bin/env python3
 """Refuses memory, files, reads, writes and threads to what `rt ci` has built, gives the program hostile files and
-outputs, and sees that each run ends as it may.
+outputs, and sees that each run ends as it may. Where `rt ci` has built no tests, those of check/tests.py are taken.
 
     check/refusals.py            all of it; the last line counts runs
 
@@ -34,6 +34,8 @@ LONG_SECONDS = 120
 SWEEPS = 5
 MOST_WRONG = 5
 TESTS = f"{ROOT}/crates/*_tests/out/*_tests_tests"
+# Those of check/tests.py, which refuse memory to themselves.
+OWN_TESTS = f"{ROOT}/out/tests/*_tests"
 NAMED = re.compile(r"refused|growth|without_memory")
 STOPPED = b"test stopped at "
 NOBODY = 65534
@@ -117,9 +119,10 @@ def ran(words: list[str], env: dict[str, str] | None = None, tells: int | None =
 
 
 def ran_refused(shim: str, words: list[str], kind: str, way: str, at: int) -> Ended:
-    """Runs a program with one call refused, or all from that one on."""
+    """Runs a program with one call refused, or all from that one on, by the shim or, where that is empty, by itself."""
     heard, tells = os.pipe()
-    env = {"LD_PRELOAD": shim, "REFUSE_KIND": kind, "REFUSE_HOW": way, "REFUSE_AT": str(at), "REFUSE_TELL": str(tells)}
+    env = {"LD_PRELOAD": shim, "REFUSE_KIND": kind, "REFUSE_HOW": way, "REFUSE_AT": str(at), "REFUSE_TELL": str(tells),
+           "ASAN_OPTIONS": "abort_on_error=1:allocator_may_return_null=1"}
     try:
         ended = ran(words, env, tells)
     finally:
@@ -172,9 +175,10 @@ def swept(it: Sweep) -> Tally:
 
 
 def test_tasks(shim: str, room: str) -> list[Sweep]:
-    """The sweeps over the tests that are named for refused memory."""
-    tasks = []
-    for built in sorted(glob(TESTS)):
+    """The sweeps over the tests that are named for refused memory, as `rt ci` or else check/tests.py has built them."""
+    tasks, by_ci = [], sorted(glob(TESTS))
+    shim = shim if by_ci else ""
+    for built in by_ci or sorted(glob(OWN_TESTS)):
         program = shutil.copy(built, room)
         for name in re.findall(r"^(.*): test$", ran([program, "--list"]).output.decode(), re.MULTILINE):
             if NAMED.search(name):
@@ -378,11 +382,12 @@ def file_cases() -> list[Case]:
 
 def memory_cases() -> list[Case]:
     """Layers, files of a join and pairs that need more than 64 MB, a report of 48,000 pairs that needs a tenth of it,
-    and a join of 2,500 tasks that needs half of 48."""
+    a join of 2,500 tasks that needs half of 48, and a small one in 8, which a thread doesn't fit into."""
     held = ["rjoin", "window", "half.csv", "POINT (0 0)"]
     pairs = ["rjoin", "join", "crowd.csv", "crowd.csv", "--relation", "intersects"]
     tasks = ["rjoin", "join", "row.csv", "row.csv", "--relation", "equals", "--workers", "1", "--cut", "8"]
     report = ["rjoin", "join", "crowd.csv", "few.csv", "--relation", "equals", "--workers", "1"]
+    alone = ["rjoin", "join", "few.csv", "few.csv", "--relation", "equals", "--workers", "1"]
     most = "ulimit -v 65536;"
     return [
         Case("a long file in 64 MB", under(most, "rjoin", "stats", "too-long.csv"), rb"rjoin: layer: no memory\n"),
@@ -395,6 +400,7 @@ def memory_cases() -> list[Case]:
         Case("many pairs in 64 MB", under(most, *pairs), NO_MEMORY + b"|" + NO_THREAD),
         Case("a report of 48,000 pairs in 64 MB", under(most, *report), b"", 0, front=equals_of_crowd()),
         Case("many tasks in 48 MB", under("ulimit -v 49152;", *tasks), b"", 0, front=equals_of_row()),
+        Case("one worker in 8 MB", under("ulimit -v 8192;", *alone), b"", 0, front=equals_of_crowd(FEW)),
     ]
 
 
@@ -409,9 +415,9 @@ def equals_of_row() -> bytes:
     return b"left,right,matrix\n" + b"".join(b"%d,%d,0FFFFFFF2\n" % (it, it) for it in range(IN_ROW))
 
 
-def equals_of_crowd() -> bytes:
-    """The report of the crowd's points beside the few, all of which are equal."""
-    pairs = ((left, right) for left in range(IN_CROWD) for right in range(FEW))
+def equals_of_crowd(lefts: int = IN_CROWD) -> bytes:
+    """The report of the crowd's points, or the first of them, beside the few, all of which are equal."""
+    pairs = ((left, right) for left in range(lefts) for right in range(FEW))
     return b"left,right,matrix\n" + b"".join(b"%d,%d,0FFFFFFF2\n" % it for it in pairs)
 
 
@@ -498,9 +504,9 @@ class Calls:
 
 
 def thread_limits() -> list[Calls]:
-    """One worker is one thread, and what needs no worker starts none but where it reads a layer of 64 KiB or more: for
-    each MiB of it three that read parts and one that inserts rows. With more workers, a few more threads read and build
-    the right layer, sort pairs and free a layer beside the left one. Each processor may sort with two threads."""
+    """One worker starts no thread, and what needs no worker starts none but where it reads a layer of 64 KiB or more:
+    for each MiB of it three that read parts and one that inserts rows. With more workers, a few more threads read and
+    build the right layer, sort pairs and free a layer beside the left one. Each processor may sort with two threads."""
     join, crowd = commands()["join"], ["join", "crowd.csv", "few.csv", "--relation", "equals"]
     limits = [Calls(it, commands()[it], "thread", 0, 0) for it in ("stats", "window", "bounds", "relate")]
     rounds = -(-os.path.getsize("half.csv") // 1_048_576)
@@ -509,15 +515,26 @@ def thread_limits() -> list[Calls]:
         limits.append(Calls(f"{command} of a large file", [command, "row.csv", *rest], "thread", 4, 4))
         words, threads = [command, "half.csv", *rest], 4 * rounds
         limits.append(Calls(f"{command} of a long file", words, "thread", threads, threads))
-    limits.append(Calls("one worker", [*join, "--workers", "1"], "thread", 1, 1))
-    one_processor = ["taskset", "-c", str(min(os.sched_getaffinity(0)))]
-    limits.append(Calls("a worker for one processor", [*join, "--workers", "auto"], "thread", 1, 1, one_processor))
+    for name in ("join", "join of any geometry", "draw", "near", "nearest"):
+        limits.append(Calls(f"{name} by one worker", [*commands()[name], "--workers", "1"], "thread", 0, 0))
+    large = ["join", "half.csv", "row.csv", "--relation", "equals", "--workers", "1"]
+    limits.append(Calls("a join of large files by one worker", large, "thread", 0, 0))
+    limits += [workers_for(number) for number in range(1, min(len(os.sched_getaffinity(0)), 2) + 1)]
     for workers in (2, 4, 16):
         limits.append(Calls(f"{workers} workers", [*join, "--workers", str(workers)], "thread", workers, workers + 8))
-    limits.append(Calls("48,000 pairs by one", [*crowd, "--workers", "1"], "thread", 1, 1))
+    limits.append(Calls("48,000 pairs by one", [*crowd, "--workers", "1"], "thread", 0, 0))
     most = 4 * 4 + 2 * (os.cpu_count() or 1) + 8
     limits.append(Calls("48,000 pairs by four", [*crowd, "--workers", "4"], "thread", 4, most))
     return limits
+
+
+def workers_for(number: int) -> Calls:
+    """A worker for each of so many processors: as many threads, and no more than with this number of workers; none for
+    one."""
+    listed = ",".join(map(str, sorted(os.sched_getaffinity(0))[:number]))
+    words = [*commands()["join"], "--workers", "auto"]
+    least, most = (0, 0) if number == 1 else (number, number + 8)
+    return Calls(f"workers auto, processors {number}", words, "thread", least, most, ["taskset", "-c", listed])
 
 
 def device_limits() -> list[Calls]:
@@ -536,10 +553,10 @@ def device_limits() -> list[Calls]:
 
 
 def wait_limits() -> list[Calls]:
-    """One worker tries 64,000,000 pairs and sends two messages. Before each of them the receiver yields 64 times at
-    most, and then sleeps for 50 microseconds at a time."""
-    words = ["join", "throng.csv", "throng.csv", "--relation", "touches", "--workers", "1", "--cut", "0"]
-    return [Calls("a long task", words, "yield", 1, 128), Calls("a long task", words, "nap", 150, 1_000_000),
+    """One of two workers tries 64,000,000 pairs and sends two messages, and the other one. Before each of them the
+    receiver yields 64 times at most, and then sleeps for 50 microseconds at a time."""
+    words = ["join", "throng.csv", "throng.csv", "--relation", "touches", "--workers", "2", "--cut", "0"]
+    return [Calls("a long task", words, "yield", 1, 192), Calls("a long task", words, "nap", 150, 1_000_000),
             Calls("a long task", words, "long", 0, 0)]
 
 
@@ -620,8 +637,8 @@ def summed(tallies: list[Tally], what: str) -> Tally:
 
 def main() -> int:
     built = f"{ROOT}/crates/rjoin/out/rjoin"
-    if not os.path.isfile(built) or not glob(TESTS):
-        sys.exit("refusals: rt ci has left no program or no tests to run")
+    if not os.path.isfile(built) or not glob(TESTS) + glob(OWN_TESTS):
+        sys.exit("refusals: rt ci has left no program, or neither it nor check/tests.py has left tests to run")
     with tempfile.TemporaryDirectory(prefix="refusals-") as room:
         os.chmod(room, 0o755)
         shim, program = compiled(room), shutil.copy(built, room)

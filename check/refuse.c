@@ -1,4 +1,5 @@
-/* Loaded before a program's other libraries, this refuses its calls of one kind.
+/* Loaded before a program's other libraries, this refuses its calls of one kind. Compiled with WRAPPED, and linked into a
+ * program with --wrap=malloc and so on, it refuses memory alone, also where the program has a malloc of its own.
  *
  *     REFUSE_KIND   memory, read, write, open, thread or keys (random bytes); or what is counted and not refused:
  *                   growth (a list of 64 KiB or more made larger), yield, nap (a wait that ends by itself),
@@ -31,8 +32,16 @@
 #include <ucontext.h>
 #include <unistd.h>
 
-void *__libc_malloc(size_t), *__libc_calloc(size_t, size_t);
-void *__libc_realloc(void *, size_t), *__libc_memalign(size_t, size_t);
+#ifdef WRAPPED
+#define CALL(name) __wrap_##name
+#define REAL(name) __real_##name
+#else
+#define CALL(name) name
+#define REAL(name) __libc_##name
+#endif
+
+void *REAL(malloc)(size_t), *REAL(calloc)(size_t, size_t);
+void *REAL(realloc)(void *, size_t), *REAL(memalign)(size_t, size_t);
 
 static const char *kind = "", *how = "";
 static long at, counted;
@@ -40,7 +49,11 @@ static int tell = -1, told;
 
 static int is(const char *word, const char *wanted) { return strcmp(word, wanted) == 0; }
 
+#ifdef WRAPPED
+static void stop_naps(void) {}
+#else
 static void stop_naps(void);
+#endif
 
 __attribute__((constructor)) static void begin(void) {
     if (!getenv("REFUSE_KIND")) return;
@@ -66,17 +79,22 @@ static __thread int starting;
 
 static int no_memory(void) { return !starting && refused("memory") ? (errno = ENOMEM) : 0; }
 
-void *malloc(size_t size) { return no_memory() ? NULL : __libc_malloc(size); }
-void *calloc(size_t count, size_t size) { return no_memory() ? NULL : __libc_calloc(count, size); }
+void *CALL(malloc)(size_t size) { return no_memory() ? NULL : REAL(malloc)(size); }
+void *CALL(calloc)(size_t count, size_t size) { return no_memory() ? NULL : REAL(calloc)(count, size); }
 
-void *realloc(void *old, size_t size) {
+void *CALL(realloc)(void *old, size_t size) {
     if (old && size >= LARGE) refused("growth");
-    return no_memory() ? NULL : __libc_realloc(old, size);
+    return no_memory() ? NULL : REAL(realloc)(old, size);
 }
 
-void *memalign(size_t to, size_t size) { return no_memory() ? NULL : __libc_memalign(to, size); }
-void *aligned_alloc(size_t to, size_t size) { return memalign(to, size); }
-int posix_memalign(void **made, size_t to, size_t size) { return (*made = memalign(to, size)) ? 0 : ENOMEM; }
+void *CALL(memalign)(size_t to, size_t size) { return no_memory() ? NULL : REAL(memalign)(to, size); }
+void *CALL(aligned_alloc)(size_t to, size_t size) { return CALL(memalign)(to, size); }
+
+int CALL(posix_memalign)(void **made, size_t to, size_t size) {
+    return (*made = CALL(memalign)(to, size)) ? 0 : ENOMEM;
+}
+
+#ifndef WRAPPED
 
 /* The bytes that a read or write may move, or -1 where it fails. */
 static ssize_t allowed(const char *of, size_t size) {
@@ -174,3 +192,5 @@ static void stop_naps(void) {
     if (sigaction(SIGSYS, &action, NULL) || prctl(PR_SET_NO_NEW_PRIVS, 1, 0, 0, 0)) abort();
     if (prctl(PR_SET_SECCOMP, SECCOMP_MODE_FILTER, &filter)) abort();
 }
+
+#endif

@@ -2,26 +2,40 @@
 """Runs the program that `rt ci` has built on files whose answers were written by hand or follow by arithmetic.
 
     check/stored_runs.py [ROWS]     all of it; the last line counts. ROWS are those of a layer some of whose rows are
-                                    skipped: 20,000 unless given, and 1,000 of them are unreadable
+                                    skipped: 20,000 unless given, and 5,000 of them are unreadable
 
 A folder of check/runs is one run: `args` has its words, one a line, `stdin` is its standard input, and `files/` are the
 files that lie where it runs. It has to write `stdout`, say `stderr`, end with the status in `status` and leave the
-files of `left/` beside those that were there; a file that isn't there stands for nothing, or for status 0. Runs over
-files that are longer than one read are made below.
+files of `left/` beside those that were there; a file that isn't there stands for nothing, or for status 0.
+
+A file check/runs/NAME.toml has several runs over the same files. Its table `files` has their texts by their names, and
+`-` is standard input. A `run` has its `words` and, where they aren't nothing or 0, its `stdout`, `stderr`, `status` and
+`left`; its own `files` are added to those of all runs or stand in their place. With `workers`, a list of numbers, it is
+run by each of them.
+
+Runs over files that are longer than one read are made below. RJOIN is the program, where it is set.
 """
+import os
 import subprocess
 import sys
 import tempfile
+import tomllib
 from collections.abc import Iterator
 from dataclasses import dataclass, field
 from pathlib import Path
+from typing import Any
 
 ROOT = Path(__file__).resolve().parent.parent
-PROGRAM = ROOT / "crates/rjoin/out/rjoin"
+PROGRAM = Path(os.environ.get("RJOIN") or ROOT / "crates/rjoin/out/rjoin").absolute()
+# What a run of a table may have.
+KEYS = {"words", "workers", "files", "stdout", "stderr", "status", "left"}
 SECONDS = 60
 MANY = 20_000
+UNREADABLE = 5_000
 # With so many features, comparing each with every other one takes minutes.
 MOST = 300_000
+# The most features that a picture has.
+MOST_DRAWN = 100_000
 
 
 @dataclass
@@ -67,7 +81,16 @@ def parted(what: str, found: bytes, wanted: bytes) -> str | None:
     return f"{what} {found[at : at + 60]!r} at byte {at}, and not {wanted[at : at + 60]!r}"
 
 
-def stored(folder: Path) -> Run:
+def stored() -> Iterator[Run]:
+    """Returns the runs of check/runs."""
+    for path in sorted((ROOT / "check/runs").iterdir()):
+        if path.is_dir():
+            yield run_of(path)
+        else:
+            yield from runs_of(path)
+
+
+def run_of(folder: Path) -> Run:
     """Returns the run of a folder."""
 
     def content(name: str) -> bytes:
@@ -79,6 +102,31 @@ def stored(folder: Path) -> Run:
     status = int(content("status") or 0)
     left = {path.name: path.read_bytes() for path in (folder / "left").glob("*")}
     return Run(folder.name, words, files, content("stdin"), content("stdout"), content("stderr"), status, left)
+
+
+def runs_of(path: Path) -> Iterator[Run]:
+    """Returns the runs of a table."""
+    table = tomllib.loads(path.read_text(encoding="utf-8"))
+    for number, row in enumerate(table["run"], 1):
+        unknown = row.keys() - KEYS
+        if unknown:
+            raise ValueError(f"{path.name}: run {number} has {' '.join(sorted(unknown))}, which no run has")
+        for workers in row.get("workers", [None]):
+            yield run_of_row(f"{path.name}, run {number}", table.get("files", {}), row, workers)
+
+
+def run_of_row(name: str, files: dict[str, str], row: dict[str, Any], workers: int | None) -> Run:
+    """Returns the run of a row of a table by some workers, or by as many as its words ask for."""
+    words = row["words"] if workers is None else [*row["words"], "--workers", str(workers)]
+    texts = encoded({**files, **row.get("files", {})})
+    stdin = texts.pop("-", b"")
+    return Run(f"{name}, {' '.join(words)}", words, texts, stdin, row.get("stdout", "").encode(),
+               row.get("stderr", "").encode(), row.get("status", 0), encoded(row.get("left", {})))
+
+
+def encoded(texts: dict[str, str]) -> dict[str, bytes]:
+    """The bytes of files by their names."""
+    return {name: text.encode() for name, text in texts.items()}
 
 
 def layer(rows: list[tuple[str, str]]) -> bytes:
@@ -111,9 +159,33 @@ def long_runs() -> Iterator[Run]:
     yield Run("long-join-of-standard-input", ["join", "-", *join[2:]], files, stdin=left, stdout=report)
     last = f"POINT ({10 * MANY - 6} {(MANY - 1) % 5})"
     yield Run("long-window", ["window", "right.csv", last], files, stdout=f"id\np{MANY - 1}\n".encode())
-    yield from runs_of_most()
+    # A node has at most eight items, so the tree has 2,500 leaves, then 313, 40 and 5 nodes, and the root.
+    stats = f"features {MANY}\npoints {MANY}\nsegments 0\nrectangles 0\nheight 5\n"
+    yield Run("long-stats", ["stats", "right.csv"], files, stdout=stats.encode())
     yield Run("long-row-at-fault", ["stats", "-"], stdin=right + b"p0,POINT (0 0)\n",
               stderr=f"rjoin: layer: row {MANY + 1}: id is already there\n".encode(), status=1)
+    ragged = {**files, "right.csv": right + b"last\n", "edits.csv": b"id,wkt\n"}
+    yield Run("long-ragged-row-before-edits-at-fault", [*join, "--edits", "edits.csv"], ragged,
+              stderr=f"rjoin: right: row {MANY + 1}: wrong fields\n".encode(), status=1)
+
+
+def pictures_of_most() -> Iterator[Run]:
+    """Makes pictures of as many features as are drawn, points at the origin, and of one more."""
+    points = b"id,wkt\n" + b"".join(b"%d,POINT (0 0)\n" % n for n in range(MOST_DRAWN))
+    files = {"left.csv": points, "right.csv": b"id,wkt\nlast,POINT (0 0)\n",
+             "edits.csv": b"op,layer,id,wkt\ndelete,right,last,\n"}
+    words = ["draw", "left.csv", "right.csv", "--relation", "touches"]
+    # The first lines of a picture differ by its counts alone, where it is as wide as it is high.
+    head = (ROOT / "check/runs/draw-two-layers/stdout").read_bytes().partition(b' viewBox="0 0 6 6"')[0]
+    for count, now in ((b"left features: 2", b"left features: %d" % MOST_DRAWN),
+                       (b"right features: 2", b"right features: 0"), (b"matching pairs: 1", b"matching pairs: 0")):
+        head = head.replace(count, now)
+    # A margin of one unit is on each side of the origin.
+    drawn = b"".join(b'<path class="point" d="M1 1h0v0"><title>%d</title></path>\n' % n for n in range(MOST_DRAWN))
+    picture = (head + b' viewBox="0 0 2 2">\n<g class="left">\n' + drawn
+               + b'</g>\n<g class="right">\n</g>\n</svg>\n</svg>\n')
+    yield Run("most-features-drawn", [*words, "--edits", "edits.csv"], files, stdout=picture)
+    yield Run("one-more-than-drawn", words, files, stderr=b"rjoin: more than 100000 features to draw\n", status=1)
 
 
 def runs_of_most() -> Iterator[Run]:
@@ -133,15 +205,15 @@ def runs_of_most() -> Iterator[Run]:
 
 
 def runs_that_skip(rows: int) -> Iterator[Run]:
-    """Makes runs over a layer 1,000 of whose rows can't be read, by the numbers of workers that read it in other parts.
+    """Makes runs over a layer 5,000 of whose rows can't be read, by the numbers of workers that read it in other parts.
 
-    Row n of the left layer is the point (n, 0), and every one of a thousandth of the rows has one of the four faults in
-    turn, whatever its place in a part is. The right layer is a line along all of them, whose last row is at fault too.
+    Row n of the left layer is the point (n, 0), and the last of as many rows as make 5,000 parts has one of the four
+    faults in turn. The right layer is a line along all of them, whose last row is at fault too.
     """
     faults = [("POINT (1 2", "not a geometry text"), ("POINT (0.5 2)", "number not whole or out of range"),
               ('"LINESTRING (1 1, 1 1)"', "a line without length, or a ring that is not closed or is flat"),
               ('"POLYGON ((0 0, 4 4, 4 0, 0 4, 0 0))"', "rings cross or overlap")]
-    step = rows // 1_000
+    step = rows // UNREADABLE
     texts, listed, pairs = [], [], []
     for n in range(1, rows + 1):
         if n % step:
@@ -171,9 +243,8 @@ def main() -> int:
     if not PROGRAM.is_file():
         print("stored runs: the program isn't built: run `rt ci` first")
         return 2
-    folders = sorted(path for path in (ROOT / "check/runs").iterdir() if path.is_dir())
     rows = int(sys.argv[1]) if len(sys.argv) > 1 else MANY
-    runs = [*map(stored, folders), *long_runs(), *runs_that_skip(rows)]
+    runs = [*stored(), *long_runs(), *runs_of_most(), *pictures_of_most(), *runs_that_skip(rows)]
     failed = 0
     for run in runs:
         why = run.wrong()

@@ -1,6 +1,7 @@
 #!/usr/bin/env python3
 """Tests the gate's own runner with parts that pass, fail, skip, hang, leave a server or run side by side, the list of
-packages, and the choice of tested mutants."""
+packages, budgets, the choice of mutants, and how tests are counted."""
+import io
 import os
 import runpy
 import signal
@@ -9,8 +10,17 @@ import sys
 import tempfile
 import time
 import unittest
+from contextlib import redirect_stdout
 from pathlib import Path
 from unittest.mock import patch
+
+import budgets
+import changes
+import crates
+import gate as runner
+import mutants
+import proofs
+import tests
 
 HERE = Path(__file__).resolve().parent
 DRIVER = """
@@ -157,6 +167,15 @@ class Gate(unittest.TestCase):
         self.assertEqual((running.returncode, left), (143, []))
         self.assertLessEqual({"reported heavy", "reported light"}, set(reported.splitlines()))
 
+    def test_all_has_each_part_try_all_in_twice_the_time(self) -> None:
+        parts = runner.Part("one", ("try", "--changed"), 3, whole=("try",)), runner.Part("two", ("do",), 4)
+        with patch.multiple(runner, PARTS=parts, MOST_MINUTES=50), patch.object(runner, "gate") as called:
+            runner.main(["--all", "one", "two"])
+            runner.main(["one"])
+        self.assertEqual([[(part.words, part.minutes) for part in it.args[0]] for it in called.mock_calls],
+                         [[(("try",), 6), (("do",), 8)], [(("try", "--changed"), 3)]])
+        self.assertEqual([it.args[1:] for it in called.mock_calls], [(100,), ()])
+
     def test_parts_read_nothing(self) -> None:
         self.last(0, "1 passed, 0 failed, 0 skipped", shell("reads", "test -z \"$(cat)\""))
 
@@ -195,77 +214,207 @@ class Packages(unittest.TestCase):
         self.assertEqual((ended.returncode, ended.stderr), (2, "install: no part nothing\n"))
 
 
-class TestedMutants(unittest.TestCase):
-    """The choice of tested mutants in a repository whose crates `one` and `two` have a mutant each; that of `one` fails
-    a test of `one_tests`."""
+# What stands for a proof: it works for 0.3 seconds, once a copy of it has done so.
+PROOF = """
+import os, time
+if os.fork():
+    os.wait()
+while time.process_time() < 0.3:
+    pass
+"""
+PROVES = ("{0}/rattle build --crate-name one; {0}/rattle build --crate-name one --test & "
+          "{0}/rattle check --crate-name two; wait; exit 3")
+
+
+class Budgets(unittest.TestCase):
+    """The processor time of proofs, and how it is judged."""
+
+    def test_the_proofs_below_a_command_are_timed(self) -> None:
+        with tempfile.TemporaryDirectory() as room:
+            Path(room, "rattle").symlink_to(sys.executable)
+            for verb in ("build", "check"):
+                Path(room, verb).write_text(PROOF, encoding="utf-8")
+            words = [f"{room}/rattle", "build", "--crate-name", "one"]
+            how = patch.multiple(proofs, ROOT=room, POLL_SECONDS=0.05)
+            with how, subprocess.Popen(words, cwd=room):
+                status, watch = proofs.watched(["sh", "-c", PROVES.format(room)])
+        found = dict(watch.by_crate())
+        self.assertEqual((status, list(found)), (3, ["one", "two"]))
+        for crate, worked in (("one", 1.2), ("two", 0.6)):
+            self.assertTrue(0.8 * worked < found[crate] < worked + 0.3, found)
+
+    def judged(self, **took: float) -> tuple[int, list[str]]:
+        """The status, and the crates that are found to take too much."""
+        listed = {"geom_core": 50.0, "large": 100.0, "small": 1.0}
+        with redirect_stdout(io.StringIO()) as said:
+            status = budgets.judge(took, listed)
+        return status, [line.split(":")[0] for line in said.getvalue().splitlines()[1:-1]]
+
+    def test_a_crate_that_takes_much_more_fails(self) -> None:
+        self.assertEqual(self.judged(geom_core=50, large=139, small=4), (0, []))
+        self.assertEqual(self.judged(geom_core=50, large=150, small=4), (1, ["large"]))
+        self.assertEqual(self.judged(geom_core=50, large=100, small=9), (1, ["small"]))
+
+    def test_a_slower_machine_fails_no_crate(self) -> None:
+        self.assertEqual(self.judged(geom_core=150, large=390), (0, []))
+        self.assertEqual(self.judged(geom_core=150, large=450), (1, ["large"]))
+        self.assertEqual(self.judged(geom_core=25, large=100), (1, ["large"]))
+
+    def test_a_crate_without_a_budget_fails(self) -> None:
+        self.assertEqual(self.judged(geom_core=50, new=1), (1, ["new"]))
+
+    def test_the_list_is_made_of_a_run_that_proved_all(self) -> None:
+        with tempfile.TemporaryDirectory() as room:
+            took, listed = Path(room, "times"), Path(room, "budgets.txt")
+            how = patch.multiple(budgets, TIMES=took, BUDGETS=listed, uses_by_crate=lambda: {"one": [], "two": ["one"]})
+            with how:
+                took.write_text("one 7\n", encoding="utf-8")
+                self.assertRaises(SystemExit, budgets.main, ["--write"])
+                self.assertFalse(listed.exists())
+                took.write_text("one 7\ntwo 40\n", encoding="utf-8")
+                self.assertEqual(budgets.main(["--write"]), 0)
+            self.assertEqual(budgets.seconds_in(listed), {"one": 7, "two": 40})
+
+    def test_nothing_is_judged_by_crates_that_were_kept(self) -> None:
+        self.assertEqual(self.judged(large=900), (0, ["nothing is judged"]))
+
+
+class Tests(unittest.TestCase):
+    """How the tests of a crate are counted that are run without a proof."""
+
+    def counted(self, status: int, said: str) -> tuple[int, int]:
+        ended = subprocess.CompletedProcess([], status, said)
+        with patch.object(subprocess, "run", return_value=ended):
+            return tests.tested("one_tests")[:2]
+
+    def test_each_test_counts(self) -> None:
+        self.assertEqual(self.counted(0, "test a::b ... ok\ntest a::c ... ok\n"), (2, 0))
+        self.assertEqual(self.counted(1, "test a::b ... ok\ntest a::c ... FAILED\n"), (1, 1))
+
+    def test_a_crate_that_runs_none_or_ends_badly_has_failed(self) -> None:
+        self.assertEqual(self.counted(2, "error: src/lib.rt"), (0, 1))
+        self.assertEqual(self.counted(0, ""), (0, 1))
+        self.assertEqual(self.counted(4, "test a::b ... ok\n"), (1, 1))
+
+
+LIBRARY = """//! Old.
+
+pub fn sum(a: u8) -> u8
+    ensures { result ≡ a }
+{
+    a
+}
+
+fn other() -> u8 {
+    0
+}
+"""
+
+
+class Changed(unittest.TestCase):
+    """The choice of mutants in a repository whose crate `two` rests on `one`, and whose crates `one_tests` and
+    `two_tests` test one each. Each of the two has a mutant and a tested mutant, of which no lot is drawn."""
 
     def setUp(self) -> None:
-        folder = tempfile.TemporaryDirectory()
-        self.addCleanup(folder.cleanup)
-        self.top = Path(folder.name)
-        self.script = runpy.run_path(str(HERE / "tested_mutants.py"))
-        self.script["changed"].__globals__.update(ROOT=self.top)
+        self.top = Path(self.enterContext(tempfile.TemporaryDirectory()))
+        self.tested = runpy.run_path(str(HERE / "tested_mutants.py"))
+        self.tested["changed"].__globals__.update(ROOT=self.top)
+        for module, root in ((changes, self.top), (crates, self.top), (mutants, str(self.top))):
+            self.enterContext(patch.object(module, "ROOT", root))
+        self.enterContext(patch.object(changes, "LOTS", 10**12))
+        self.write("crates.txt", "one:\none_tests: one\ntwo: one\ntwo_tests: two\n")
         for name in ("one", "two"):
-            self.write(f"crates/{name}/src/lib.rt", "// old\n")
+            self.write(f"crates/{name}/src/lib.rt", LIBRARY)
             self.write(f"crates/{name}_tests/src/lib.rt", "// old\n")
+            self.write(f"crates/{name}/mutants/wrong.edit", "refused: sum\nfile: src/lib.rt\nold: a\nnew: b\n")
             self.write(f"crates/{name}/tested-mutants/wrong.edit",
-                       f"fails: {name}_tests it::fails\nfile: src/lib.rt\nold: // old\nnew: // new\n")
+                       f"fails: {name}_tests it::fails\nfile: src/lib.rt\nold: a\nnew: b\n")
         self.write("check/edits.py", "")
         self.git("init", "--quiet", "--initial-branch=main")
         self.commit()
+        self.land()
 
     def write(self, path: str, text: str) -> None:
         (self.top / path).parent.mkdir(parents=True, exist_ok=True)
         (self.top / path).write_text(text, encoding="utf-8")
 
-    def git(self, *words: str) -> None:
+    def git(self, *words: str, hour: float = 0) -> None:
         person = ("-c", "user.name=a", "-c", "user.email=a@example.org")
-        subprocess.run(["git", *person, *words], cwd=self.top, check=True)
+        made = {"GIT_COMMITTER_DATE": f"{1_800_000_000 + 3600 * hour:.0f} +0000"}
+        subprocess.run(["git", *person, *words], cwd=self.top, env={**os.environ, **made}, check=True)
 
-    def commit(self) -> None:
+    def commit(self, hour: float = 0) -> None:
         self.git("add", "--all")
-        self.git("commit", "--quiet", "--message=change")
+        self.git("commit", "--quiet", "--message=change", "--allow-empty", hour=hour)
 
-    def chosen(self, base: str = "") -> tuple[list[str], str]:
-        """The names of the chosen mutants' crates, and why."""
-        with patch.dict(os.environ, GATE_BASE=base):
-            chosen, why = self.script["changed"](self.script["mutants"]([]))
-        return [it.crate for it in chosen], why
+    def land(self) -> None:
+        """Makes the last commit that of the branch on the server."""
+        self.git("update-ref", "refs/remotes/origin/main", "HEAD")
+
+    def chosen(self, base: str = "") -> list[list[str]]:
+        """The crates of the chosen mutants, and those of the chosen tested mutants."""
+        with patch.dict(os.environ, GATE_BASE=base), redirect_stdout(io.StringIO()):
+            tested, _ = self.tested["changed"](self.tested["mutants"]([]))
+            return [sorted(mutants.wanted(["--changed"], mutants.dependencies())), [it.crate for it in tested]]
 
     def test_with_no_base_all_are_chosen(self) -> None:
-        self.assertEqual(self.chosen(), (["one", "two"], "no branch is known that this one came from"))
-        self.assertEqual(self.chosen("nowhere"), (["one", "two"], "nowhere has no commit in common with this one"))
+        both = [["one", "two"]] * 2
+        self.assertEqual(self.chosen("nowhere"), both)
+        self.assertEqual(self.chosen(), both, "no landing before this one is known")
+        self.git("update-ref", "-d", "refs/remotes/origin/main")
+        self.assertEqual(self.chosen(), both, "no branch is known")
 
-    def test_on_the_base_all_are_chosen(self) -> None:
-        self.git("update-ref", "refs/remotes/origin/main", "HEAD")
-        self.assertEqual(self.chosen(), (["one", "two"], "this is a commit of origin/main"))
-
-    def test_a_branch_tries_those_whose_crate_or_tests_changed(self) -> None:
-        self.git("update-ref", "refs/remotes/origin/main", "HEAD")
+    def test_a_branch_tries_what_changed_on_it(self) -> None:
         self.write("README.md", "")
         self.commit()
-        self.assertEqual(self.chosen()[0], [])
+        self.assertEqual(self.chosen(), [[], []])
         self.write("crates/two/src/lib.rt", "// newer\n")
         self.commit()
-        crates, why = self.chosen()
-        self.assertEqual(crates, ["two"])
-        self.assertRegex(why, "^two changed since [0-9a-f]{12} of origin/main$")
-        self.write("crates/one_tests/src/lib.rt", "// newer, and in no commit\n")
-        self.assertEqual(self.chosen()[0], ["one", "two"])
-        self.assertEqual(self.chosen("HEAD~1")[0], ["one", "two"])
+        self.assertEqual(self.chosen(), [["two"], ["two"]])
+        self.write("crates/one_tests/src/new.rt", "// in no commit\n")
+        self.assertEqual(self.chosen(), [["two"], ["one", "two"]])
+        self.assertEqual(self.chosen("HEAD~1"), [["two"], ["one", "two"]])
 
-    def test_a_new_file_in_no_commit_is_a_change(self) -> None:
-        self.write("README.md", "")
+    def test_the_branch_itself_tries_what_landed_last(self) -> None:
+        self.write("crates/one/mutants/wrong.edit", "refused: sum\nfile: src/lib.rt\nold: a\nnew: c\n")
+        self.commit(9)
+        self.commit(11)
+        self.land()
+        self.assertEqual(self.chosen(), [["one"], ["one"]])
+        self.commit(20)
+        self.land()
+        self.assertEqual(self.chosen(), [[], []])
+
+    def test_a_changed_statement_touches_what_rests_on_it(self) -> None:
+        for old, new, mutants_of in (("Old", "New", ["one"]), ("    a", "    b", ["one"]), ("other", "more", ["one"]),
+                                     ("≡", "≤", ["one", "two"]), ("pub fn", "fn", ["one", "two"])):
+            self.write("crates/one/src/lib.rt", LIBRARY.replace(old, new))
+            self.commit()
+            self.assertEqual(self.chosen()[0], mutants_of, new)
+        self.write("crates/one/src/lib.rt", LIBRARY)
+        self.write("crates/one/specs/Sums.antt", "")
+        self.assertEqual(self.chosen(), [["one", "two"], ["one"]])
+
+    def test_another_line_of_the_list_is_a_change(self) -> None:
+        self.write("crates.txt", "one:\none_tests: one\ntwo: one std\ntwo_tests: two\n")
         self.commit()
-        self.write("crates/one/src/new.rt", "")
-        self.assertEqual(self.chosen("HEAD~1")[0], ["one"])
+        self.assertEqual(self.chosen(), [["two"], ["two"]])
 
     def test_a_change_of_how_they_are_tried_chooses_all(self) -> None:
         self.write("check/edits.py", "# newer\n")
         self.commit()
-        crates, why = self.chosen("HEAD~1")
-        self.assertEqual(crates, ["one", "two"])
-        self.assertRegex(why, "^check/edits.py changed since [0-9a-f]{12} of HEAD~1$")
+        self.assertEqual(self.chosen(), [["one", "two"]] * 2)
+
+    def test_ten_landings_try_each_mutant_once(self) -> None:
+        every = [f"one/{number}" for number in range(50)]
+        drawn: list[str] = []
+        with patch.object(changes, "LOTS", 10):
+            for landing in range(1, 11):
+                self.commit(10 * landing)
+                self.commit(10 * landing + 2)
+                self.land()
+                drawn += changes.chosen(every, (), lambda _: set())[0]
+        self.assertEqual(sorted(drawn), sorted(every))
 
 
 if __name__ == "__main__":

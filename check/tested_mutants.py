@@ -9,12 +9,9 @@ it over the mutant and runs it, with no proof.
 
     check/tested_mutants.py [CRATE | CRATE/MUTANT ..]
                                             of these crates, or of all
-    check/tested_mutants.py --changed       of the crates that changed, or whose tests did, since this branch left
-                                            GATE_BASE, else origin/HEAD, origin/main or origin/master; of all where
-                                            none of them is known, where this is one of its commits, and where the
-                                            files changed by which mutants are tried
+    check/tested_mutants.py --changed       of the crates that changed, or whose tests did, since the base (changes.py),
+                                            and a tenth of the others; of all where how they are tried changed
     check/tested_mutants.py --unchanged     with nothing changed: each of these tests has to pass
-    check/tested_mutants.py --try           what `rt try --test` does in this folder, for the script itself
 
 The status is 0 where each test failed as it has to. The last line counts.
 """
@@ -29,19 +26,14 @@ from concurrent.futures import ThreadPoolExecutor
 from dataclasses import dataclass
 from pathlib import Path
 
+from changes import Changes, chosen
 from edits import BadEdit, Change, Edit, applied, edit_of
 
 ROOT = Path(__file__).resolve().parent.parent
-sys.path.append(str(ROOT / "tools"))
-
-from toolchain import toolchain  # noqa: E402
-
 # Each run compiles with one thread, and takes about 2 GB.
 AT_ONCE = min(len(os.sched_getaffinity(0)), 4)
-# The branches that this one may have come from.
-BRANCHES = ("origin/HEAD", "origin/main", "origin/master")
 # The files that every verdict rests on, as Git's paths.
-OF_ALL = {"check/tested_mutants.py", "check/edits.py", "tools/toolchain.py", "crates.txt", "HANDLES"}
+OF_ALL = {"check/tested_mutants.py", "check/tests.py", "check/edits.py", "tools/toolchain.py", "HANDLES"}
 # A function with its comments and attributes, to the brace below its first letter.
 FUNCTION = re.compile(r"((?:^ *(?:///|#\[).*\n)+)^( *)(?:pub )?fn (\w+)\b(?:.*\n)+?\2}\n", re.M)
 
@@ -55,8 +47,11 @@ class Mutant:
     tests: str
     test: str
 
+    def name(self) -> str:
+        return f"{self.crate}/{self.edit.name}"
+
     def __str__(self) -> str:
-        return f"{self.crate}/{self.edit.name}: {self.tests} {self.test}"
+        return f"{self.name()}: {self.tests} {self.test}"
 
 
 def mutant_of(path: Path) -> Mutant:
@@ -70,46 +65,17 @@ def mutant_of(path: Path) -> Mutant:
 def mutants(words: list[str]) -> list[Mutant]:
     """Those of these crates, or of these names, or all."""
     found = [mutant_of(path) for path in sorted(ROOT.glob("crates/*/tested-mutants/*.edit"))]
-    return [it for it in found if not words or it.crate in words or f"{it.crate}/{it.edit.name}" in words]
-
-
-def git(*words: str) -> str:
-    """What Git answers in this repository, or nothing where it can't."""
-    try:
-        ended = subprocess.run(["git", *words], cwd=ROOT, capture_output=True, text=True, check=False)
-    except OSError:
-        return ""
-    return ended.stdout.strip() if ended.returncode == 0 else ""
-
-
-def branching() -> tuple[str, str]:
-    """The branch that this one came from and the last commit that both have; nothing where it isn't known."""
-    named = os.environ.get("GATE_BASE")
-    for branch in [named] if named else BRANCHES:
-        commit = git("merge-base", "HEAD", branch)
-        if commit:
-            return branch, commit
-    return named or "", ""
+    return [it for it in found if not words or it.crate in words or it.name() in words]
 
 
 def changed(found: list[Mutant]) -> tuple[list[Mutant], str]:
-    """Those of these mutants whose crate or whose tests' crate changed since this branch left its base, and why these.
-    What isn't committed counts too."""
-    branch, commit = branching()
-    if not commit:
-        return found, f"{branch} has no commit in common with this one" if branch else \
-            "no branch is known that this one came from"
-    if commit == git("rev-parse", "HEAD"):
-        return found, f"this is a commit of {branch}"
-    paths = {*git("diff", "--name-only", "--no-renames", commit).splitlines(),
-             *git("ls-files", "--others", "--exclude-standard").splitlines()}
-    since = f"changed since {commit[:12]} of {branch}"
-    of_all = sorted(paths & OF_ALL)
-    if of_all:
-        return found, f"{' '.join(of_all)} {since}"
-    crates = {path.split("/")[1] for path in paths if path.startswith("crates/")}
-    return ([it for it in found if {it.crate, it.tests} & crates],
-            f"{' '.join(sorted(crates)) or 'no crate'} {since}")
+    """Those of these mutants that `--changed` tries, and why these."""
+    def touched(changes: Changes) -> set[str]:
+        crates = changes.crates()
+        return {it.name() for it in found if {it.crate, it.tests} & crates}
+
+    some, why = chosen([it.name() for it in found], OF_ALL, touched)
+    return [it for it in found if it.name() in some], why
 
 
 def keep(tests: Path, wanted: Collection[str]) -> None:
@@ -130,7 +96,7 @@ def verdicts(tests: str, wanted: Collection[str], crate: str = "", changes: Iter
         for path, text in applied(f"{room}/crates/{crate}", changes, {}).items():
             Path(f"{room}/crates/{crate}/{path}").write_text(text, encoding="utf-8")
         keep(Path(room, "crates", tests, "src"), wanted)
-        ended = subprocess.run([sys.executable, __file__, "--try"], cwd=f"{room}/crates/{tests}", text=True,
+        ended = subprocess.run([ROOT / "check/tests.py", "--try"], cwd=f"{room}/crates/{tests}", text=True,
                                errors="replace", stdin=subprocess.DEVNULL, stdout=subprocess.PIPE,
                                stderr=subprocess.STDOUT)
     found = dict(re.findall(r"(?m)^test (\S+) \.\.\. (\S+)", ended.stdout))
@@ -158,16 +124,7 @@ def unchanged(wanted: list[Mutant]) -> list[tuple[bool, str]]:
     return reported
 
 
-def try_tests() -> int:
-    """What `rt try --test` does, without the check for names beside it, which only gives hints."""
-    kit = toolchain()
-    setattr(kit, "RATTLE", "true")
-    return int(kit.Crate(os.getcwd(), str(Path.cwd().parent.parent), {}).try_unproved(["--test"], []))
-
-
 def main(words: list[str]) -> int:
-    if words == ["--try"]:
-        return try_tests()
     wanted = mutants([it for it in words if not it.startswith("--")])
     if "--changed" in words:
         every = len(wanted)

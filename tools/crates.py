@@ -14,10 +14,10 @@ def uses_by_crate() -> Uses:
 
 def below(name: str, uses: Uses) -> set[str]:
     """The crates that a crate rests on, directly or not."""
-    found = set(uses[name])
-    return found.union(*(below(it, uses) for it in found))
-
-
-def above(name: str, uses: Uses) -> set[str]:
-    """The crates that rest on a crate, directly or not."""
-    return {it for it in uses if name in below(it, uses)}
+    found: set[str] = set()
+    left = [name]
+    while left:
+        new = set(uses[left.pop()]) - found
+        found |= new
+        left += new
+    return found

@@ -1,19 +1,18 @@
 -- The paths of a geometry with one path, and the corners of a shape by the least and the greatest
 -- coordinates.
-use Rattle.std.proofs.Common.{◌≡◌, arith, refl, ap, ◌∙◌, sym, inl, inr, ℕ, List, [], ◌∷◌, length, subst, slice_index_or}
-use Rattle.std.specs.Prelude.{ℤ, ◌+◌, ◌⊎◌, ◌<◌, ◌≤◌, Option, Some, None, IfSome}
+use Rattle.std.proofs.Common.{◌≡◌, arith, refl, ap, ◌∙◌, sym, inl, inr, List, [], ◌∷◌, length, subst, slice_index_or}
+use Rattle.std.specs.Prelude.{ℤ, ◌⊎◌, ◌<◌, ◌≤◌, Option, Some, None, IfSome}
 use Rattle.std.specs.Int.{int_min, int_max}
 use Rattle.std.proofs.lemmas.Int.{ints}
 use Rattle.geom_core.specs.declared.shape.Shape.{Shape}
 use Rattle.geom_core.specs.declared.span.Span.{Span}
-use Rattle.geom_core.specs.Shapes.{HasCorners, span_dim, dim_of as box_dim}
+use Rattle.geom_core.specs.Shapes.{HasCorners, dim_of as box_dim}
 use Rattle.plane_core.specs.declared.vertex.Vertex.{Vertex}
 use Rattle.plane_core.specs.Figures.{Figure, Points, Lines, Areas, dim_of}
 use Rattle.plane_core.specs.Vertices.{paths_in}
 use Rattle.agreement_core.specs.Agreement.{HasPartsOf}
 use Rattle.agreement_core.specs.BoxFigures.{AreEndsOf, AreOpposite, GoesRound}
-use Rattle.agreement_core.proofs.FigureLemmas.{point_has_parts}
-use Rattle.agreement_core.proofs.CornerLemmas.{segment_has_parts, ring_has_parts}
+use Rattle.agreement_core.proofs.CornerLemmas.{point_parts, segment_has_parts, ring_has_parts}
 
 in_order : (a b : ℤ) → ((a ≡ int_min a b) × (b ≡ int_max a b)) ⊎ ((a ≡ int_max a b) × (b ≡ int_min a b))
 in_order a b = grind (arith, ints)
@@ -96,17 +95,7 @@ pub point_box : (vs : List Vertex) (a : Vertex) (found : Option Shape) → 1 ≤
 point_box vs a None many few is_a ends flat = tt
 point_box vs a (Some s) many few is_a ends flat =
     subst (λ (ps : List Vertex). HasPartsOf s (Points ps)) (sym (one_vertex vs a many few is_a))
-    (point_has_parts s a (record { first = least s.x a.x ends.along_x (flat_first (span_dim s.x) (span_dim s.y) flat); second = least s.y a.y ends.along_y (flat_second (span_dim s.x) (span_dim s.y) flat) }) flat)
-  where
-    flat_first : (m n : ℕ) → m + n ≡ 0 → m ≡ 0
-    flat_first m n h = omega (arith, h)
-
-    flat_second : (m n : ℕ) → m + n ≡ 0 → n ≡ 0
-    flat_second m n h = omega (arith, h)
-
-    least : (n : Span) (z : ℤ) → AreEndsOf n z z → span_dim n ≡ 0 → z ≡ n.lo
-    least n z (inl e) h = e.0
-    least n z (inr e) h = e.1
+    (point_parts s a ends flat)
 
 pub segment_box : (vs : List Vertex) (a b : Vertex) (found : Option Shape) → 2 ≤ length vs → length vs < 3 → a ≡ slice_index_or vs 0 a → b ≡ slice_index_or vs 1 b
     → IfSome found (λ s. AreOpposite s a b) → IfSome found (λ s. box_dim s ≡ 1) → IfSome found (λ s. HasPartsOf s (Lines (vs ∷ [])))

@@ -1,5 +1,5 @@
--- Segments from either end, and rings through the corners of a rectangle from any corner and either
--- way round.
+-- Points, segments from either end, and rings through the corners of a rectangle from any corner and
+-- either way round.
 use Rattle.std.proofs.Common.{◌≡◌, arith, refl, ap, ◌∙◌, sym, inl, inr, [], ◌∷◌, subst, cond}
 use Rattle.std.specs.Prelude.{ℤ, ℕ, pos, ◌+◌, ◌-ℤ◌, ◌<ℤ◌, int_lt, int_le, Bool, true, false, ◌&&◌, ◌||◌, if◌then◌else◌}
 use Rattle.std.specs.Ordering.{int_eq}
@@ -7,17 +7,21 @@ use Rattle.std.proofs.lemmas.Int.{ints}
 use Rattle.geom_core.specs.declared.shape.Shape.{Shape}
 use Rattle.geom_core.specs.declared.span.Span.{Span}
 use Rattle.geom_core.specs.Cells.{line}
-use Rattle.geom_core.specs.Shapes.{dim_of}
+use Rattle.geom_core.specs.Shapes.{dim_of, span_dim}
+use Rattle.relation_core.specs.declared.matrix.Matrix.{Matrix}
+use Rattle.relation_core.specs.Matrices.{IsMatrix}
 use Rattle.plane_core.specs.declared.vertex.Vertex.{Vertex}
 use Rattle.plane_core.specs.declared.edge.Edge.{Edge}
 use Rattle.plane_core.specs.declared.part.Part.{Part}
 use Rattle.plane_core.specs.declared.part.Part.TheVariants.{Interior, Boundary, Exterior}
 use Rattle.plane_core.specs.Points.{Point, is_on, is_below, is_at}
-use Rattle.plane_core.specs.Figures.{Lines, Areas, part_of, is_odd}
+use Rattle.plane_core.specs.Figures.{Figure, Points, Lines, Areas, part_of, is_odd}
+use Rattle.plane_core.specs.PlaneMatrices.{IsPlaneMatrix}
 use Rattle.agreement_core.specs.Agreement.{IsInCell, IsCellOf, HasPartsOf}
-use Rattle.agreement_core.specs.BoxFigures.{AreEndsOf, AreOpposite, GoesRound}
+use Rattle.agreement_core.specs.BoxFigures.{AreEndsOf, AreOpposite, GoesRound, IsBoxFigure}
+use Rattle.agreement_core.proofs.AgreementLemmas.{agreement}
 use Rattle.agreement_core.proofs.BoxLemmas.{between_lines, from_line_to, level_on, upright_on, rightward_below, leftward_below, upright_below}
-use Rattle.agreement_core.proofs.FigureLemmas.{on_ring, ring_part_of, line_part_of, moved_part, one_long, two_long, ring_case, line_has_parts}
+use Rattle.agreement_core.proofs.FigureLemmas.{on_ring, ring_part_of, line_part_of, moved_part, one_long, two_long, ring_case, point_has_parts, line_has_parts}
 
 or_swap : (a b : Bool) → (a || b) ≡ (b || a)
 or_swap true true = refl
@@ -257,3 +261,45 @@ segment_has_parts s a b ends one =
       | inl h ↦ level_segment s a b one h.0 (flat_end s.y a.y b.y ends.along_y h.1) h.1 ends.along_x
       | inr h ↦ upright_segment s a b one h.0 (flat_end s.x a.x b.x ends.along_x h.1) h.1 ends.along_y
     ]
+
+-- ---- points
+
+pub point_parts : (s : Shape) (a : Vertex) → AreOpposite s a a → dim_of s ≡ 0 → HasPartsOf s (Points (a ∷ []))
+point_parts s a ends flat =
+    point_has_parts s a (record { first = least s.x a.x ends.along_x (flat_first (span_dim s.x) (span_dim s.y) flat); second = least s.y a.y ends.along_y (flat_second (span_dim s.x) (span_dim s.y) flat) }) flat
+  where
+    flat_first : (m n : ℕ) → m + n ≡ 0 → m ≡ 0
+    flat_first m n h = omega (arith, h)
+
+    flat_second : (m n : ℕ) → m + n ≡ 0 → n ≡ 0
+    flat_second m n h = omega (arith, h)
+
+    least : (n : Span) (z : ℤ) → AreEndsOf n z z → span_dim n ≡ 0 → z ≡ n.lo
+    least n z (inl e) h = e.0
+    least n z (inr e) h = e.1
+
+-- ---- the law of agreement
+
+has_parts : (s : Shape) (g : Figure) → IsBoxFigure s g → HasPartsOf s g
+has_parts s (Points (a ∷ [])) h = point_parts s a h.0 h.1
+has_parts s (Lines ((a ∷ b ∷ []) ∷ [])) h = segment_has_parts s a b h.0 h.1
+has_parts s (Areas ((a ∷ b ∷ c ∷ d ∷ e ∷ []) ∷ [])) h = ring_has_parts s a b c d e h.0 h.1 h.2
+has_parts s (Points []) h = elim h [ ]
+has_parts s (Points (a ∷ (_ ∷ _))) h = elim h [ ]
+has_parts s (Lines []) h = elim h [ ]
+has_parts s (Lines ([] ∷ _)) h = elim h [ ]
+has_parts s (Lines ((a ∷ []) ∷ _)) h = elim h [ ]
+has_parts s (Lines ((a ∷ (b ∷ [])) ∷ (_ ∷ _))) h = elim h [ ]
+has_parts s (Lines ((a ∷ (b ∷ (_ ∷ _))) ∷ _)) h = elim h [ ]
+has_parts s (Areas []) h = elim h [ ]
+has_parts s (Areas ([] ∷ _)) h = elim h [ ]
+has_parts s (Areas ((a ∷ []) ∷ _)) h = elim h [ ]
+has_parts s (Areas ((a ∷ (b ∷ [])) ∷ _)) h = elim h [ ]
+has_parts s (Areas ((a ∷ (b ∷ (c ∷ []))) ∷ _)) h = elim h [ ]
+has_parts s (Areas ((a ∷ (b ∷ (c ∷ (d ∷ [])))) ∷ _)) h = elim h [ ]
+has_parts s (Areas ((a ∷ (b ∷ (c ∷ (d ∷ (e ∷ []))))) ∷ (_ ∷ _))) h = elim h [ ]
+has_parts s (Areas ((a ∷ (b ∷ (c ∷ (d ∷ (e ∷ (_ ∷ _)))))) ∷ _)) h = elim h [ ]
+
+pub agreement_of_boxes : (a b : Shape) (g h : Figure) (m : Matrix) → IsBoxFigure a g → IsBoxFigure b h
+    → IsMatrix a b m → IsPlaneMatrix g h m
+agreement_of_boxes a b g h m x y is = agreement a b g h m (has_parts a g x) (has_parts b h y) is

@@ -1,4 +1,5 @@
--- The parts of a point, of a line along an axis and of a rectangle are those of their shapes.
+-- The parts of a point and of a line along an axis are those of their shapes, and so are those of a
+-- rectangle, by which of its edges a point is on, and which pass below it.
 use Rattle.std.proofs.Common.{◌≡◌, ◌≤◌, arith, refl, ap, ◌∙◌, sym, inl, inr, [], ◌∷◌, subst, cond}
 use Rattle.std.specs.Prelude.{ℤ, ℕ, pos, ◌+◌, ◌-ℤ◌, ◌≤ℤ◌, ◌<ℤ◌, ◌⊎◌, int_lt, int_le, Bool, true, false, ◌&&◌, ◌||◌, if◌then◌else◌}
 use Rattle.std.specs.Ordering.{int_eq}
@@ -7,19 +8,15 @@ use Rattle.geom_core.specs.declared.shape.Shape.{Shape}
 use Rattle.geom_core.specs.declared.span.Span.{Span}
 use Rattle.geom_core.specs.Cells.{line, IsWithin, IsInner}
 use Rattle.geom_core.specs.Shapes.{x1, y1, x2, y2, dim_of, span_dim}
-use Rattle.relation_core.specs.Matrices.{IsMatrix}
 use Rattle.plane_core.specs.declared.vertex.Vertex.{Vertex}
 use Rattle.plane_core.specs.declared.edge.Edge.{Edge}
 use Rattle.plane_core.specs.declared.part.Part.{Part}
 use Rattle.plane_core.specs.declared.part.Part.TheVariants.{Interior, Boundary, Exterior}
 use Rattle.plane_core.specs.Points.{Point, is_on, is_at}
-use Rattle.plane_core.specs.Figures.{Figure, Points, Lines, Areas, part_of, is_odd}
+use Rattle.plane_core.specs.Figures.{Points, Lines, is_odd}
 use Rattle.agreement_core.specs.Agreement.{IsInCell, IsCellOf, HasPartsOf}
-use Rattle.agreement_core.specs.BoxFigures.{IsBoxFigure, StandsAt}
-use Rattle.relation_core.specs.declared.matrix.Matrix.{Matrix}
-use Rattle.plane_core.specs.PlaneMatrices.{IsPlaneMatrix}
-use Rattle.agreement_core.proofs.AgreementLemmas.{agreement}
-use Rattle.agreement_core.proofs.BoxLemmas.{between_lines, from_line_to, is_at-cell, level_on, upright_on, rightward_below, leftward_below, upright_below}
+use Rattle.agreement_core.specs.BoxFigures.{StandsAt}
+use Rattle.agreement_core.proofs.BoxLemmas.{between_lines, from_line_to, is_at-cell, level_on, upright_on}
 
 -- ---- intervals without length and with one
 
@@ -349,54 +346,3 @@ two_long s h = (
 
     second : (m n : ℕ) → m ≤ 1 → n ≤ 1 → m + n ≡ 2 → n ≡ 1
     second m n a b e = omega (arith, a, b, e)
-
-ring_parts : (s : Shape) (a b c d e : Vertex) → StandsAt (x1 s) (y1 s) a → StandsAt (x2 s) (y1 s) b → StandsAt (x2 s) (y2 s) c → StandsAt (x1 s) (y2 s) d
-    → StandsAt (x1 s) (y1 s) e → (p : Point) (u v : ℤ) → IsInCell p u v → s.x.lo <ℤ s.x.hi → s.y.lo <ℤ s.y.hi
-    → IsCellOf s (part_of (Areas ((a ∷ b ∷ c ∷ d ∷ e ∷ []) ∷ [])) p) u v
-ring_parts s a b c d e ha hb hc hd he p u v cell long high =
-    let bottom = level_on (record { a = a; b = b }) p u v cell (ha.second ∙ sym hb.second) (apart a.x b.x s.x.lo s.x.hi ha.first hb.first long) in
-    let right = upright_on (record { a = b; b = c }) p u v cell (hb.first ∙ sym hc.first) (apart b.y c.y s.y.lo s.y.hi hb.second hc.second high) in
-    let top = level_on (record { a = c; b = d }) p u v cell (hc.second ∙ sym hd.second) (apart_back c.x d.x s.x.hi s.x.lo hc.first hd.first long) in
-    let left = upright_on (record { a = d; b = e }) p u v cell (hd.first ∙ sym he.first) (apart_back d.y e.y s.y.hi s.y.lo hd.second he.second high) in
-    let low = rightward_below (record { a = a; b = b }) p u v cell (ha.second ∙ sym hb.second) (less a.x b.x s.x.lo s.x.hi ha.first hb.first long) in
-    let none = upright_below (record { a = b; b = c }) p u v cell (hb.first ∙ sym hc.first) in
-    let upper = leftward_below (record { a = c; b = d }) p u v cell (hc.second ∙ sym hd.second) (less d.x c.x s.x.lo s.x.hi hd.first hc.first long) in
-    let none_left = upright_below (record { a = d; b = e }) p u v cell (hd.first ∙ sym he.first) in
-    moved_part s u v _ _
-    (rw (bottom, right, top, left, low, none, upper, none_left, ha.first, ha.second, hb.first, hb.second, hc.first, hc.second, hd.first, hd.second, he.second) refl)
-    (ring_case s u v long high _ _ _ refl refl refl)
-  where
-    apart : (x z y w : ℤ) → x ≡ y → z ≡ w → y <ℤ w → ¬ (z -ℤ x ≡ pos 0)
-    apart x z y w e f h g = omega (arith, ints, e, f, h, g)
-
-    apart_back : (x z y w : ℤ) → x ≡ y → z ≡ w → w <ℤ y → ¬ (z -ℤ x ≡ pos 0)
-    apart_back x z y w e f h g = omega (arith, ints, e, f, h, g)
-
-    less : (x z y w : ℤ) → x ≡ y → z ≡ w → y <ℤ w → x <ℤ z
-    less x z y w e f h = omega (arith, ints, e, f, h)
-
-pub has_parts : (s : Shape) (g : Figure) → IsBoxFigure s g → HasPartsOf s g
-has_parts s (Points (a ∷ [])) h = point_has_parts s a h.0 h.1
-has_parts s (Lines ((a ∷ b ∷ []) ∷ [])) h = line_has_parts s a b h.0 h.1 h.2
-has_parts s (Areas ((a ∷ b ∷ c ∷ d ∷ e ∷ []) ∷ [])) h =
-    let two = two_long s h.5 in
-    record { parts = λ p u v cell. ring_parts s a b c d e h.0 h.1 h.2 h.3 h.4 p u v cell two.0 two.1 }
-has_parts s (Points []) h = elim h [ ]
-has_parts s (Points (a ∷ (_ ∷ _))) h = elim h [ ]
-has_parts s (Lines []) h = elim h [ ]
-has_parts s (Lines ([] ∷ _)) h = elim h [ ]
-has_parts s (Lines ((a ∷ []) ∷ _)) h = elim h [ ]
-has_parts s (Lines ((a ∷ (b ∷ [])) ∷ (_ ∷ _))) h = elim h [ ]
-has_parts s (Lines ((a ∷ (b ∷ (_ ∷ _))) ∷ _)) h = elim h [ ]
-has_parts s (Areas []) h = elim h [ ]
-has_parts s (Areas ([] ∷ _)) h = elim h [ ]
-has_parts s (Areas ((a ∷ []) ∷ _)) h = elim h [ ]
-has_parts s (Areas ((a ∷ (b ∷ [])) ∷ _)) h = elim h [ ]
-has_parts s (Areas ((a ∷ (b ∷ (c ∷ []))) ∷ _)) h = elim h [ ]
-has_parts s (Areas ((a ∷ (b ∷ (c ∷ (d ∷ [])))) ∷ _)) h = elim h [ ]
-has_parts s (Areas ((a ∷ (b ∷ (c ∷ (d ∷ (e ∷ []))))) ∷ (_ ∷ _))) h = elim h [ ]
-has_parts s (Areas ((a ∷ (b ∷ (c ∷ (d ∷ (e ∷ (_ ∷ _)))))) ∷ _)) h = elim h [ ]
-
-pub agreement_of_boxes : (a b : Shape) (g h : Figure) (m : Matrix) → IsBoxFigure a g → IsBoxFigure b h
-    → IsMatrix a b m → IsPlaneMatrix g h m
-agreement_of_boxes a b g h m x y is = agreement a b g h m (has_parts a g x) (has_parts b h y) is

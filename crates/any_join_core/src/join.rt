@@ -6,7 +6,7 @@ ghost use Rattle.options_core.specs.Options.{batch_of, cut_of};
 ghost use Rattle.parallel_core.specs.Faults.{IsWant};
 ghost use Rattle.filter_core.specs.Joins.{StandIn, IsJoinList, HasMarks};
 ghost use Rattle.refine_core.specs.Refinements.{pairs_of};
-ghost use Rattle.any_join_core.specs.Matches.{AreRelated, HasMatrix};
+ghost use Rattle.any_join_core.specs.Matches.{AreRelated, BoxesMeet, HasMatrix};
 
 use crate::features::RelatedFeatures;
 use crate::outcome::AnyOutcome;
@@ -43,6 +43,8 @@ pub fn join_any<R: AllocGlobal + Threads + Wait + Sync>(
         IfOk result (λ outcome. IsJoinList related (pairs_of outcome.matches.items)) }
     ensures matrices { let matrix = HasMatrix left.now.list right.now.list in
         IfOk result (λ outcome. All matrix outcome.matches.items) }
+    ensures candidates { let meet = StandIn BoxesMeet left.now.list right.now.list in
+        IfOk result (λ outcome. IsJoinList meet outcome.candidates.pairs) }
     ensures marks { let cut = cut_of options.now in let size = batch_of options.now in
         IfOk result (λ outcome. HasMarks relations.Intersects left.now.root right.now.root cut size
         outcome.candidates) }

@@ -7,7 +7,7 @@ ghost use Rattle.options_core.specs.Options.{batch_of, cut_of};
 ghost use Rattle.parallel_core.specs.Faults.{IsWant};
 ghost use Rattle.filter_core.specs.Joins.{StandIn, IsJoinList, HasMarks};
 ghost use Rattle.refine_core.specs.Refinements.{pairs_of};
-ghost use Rattle.any_near_core.specs.Near.{AreWanted, HasSquare};
+ghost use Rattle.any_near_core.specs.Near.{AreWanted, BoxesMeet, HasSquare};
 
 use crate::features::NearGeometries;
 use crate::grown::GrownGeometry;
@@ -43,6 +43,8 @@ pub fn near_any_layers<R: AllocGlobal + Threads + Wait + Sync>(
         IfOk result (λ outcome. IsJoinList wanted (pairs_of outcome.matches.items)) }
     ensures squares { let square = HasSquare left.now.list right.now.list in
         IfOk result (λ outcome. All square outcome.matches.items) }
+    ensures candidates { let meet = StandIn BoxesMeet left.now.list right.now.list in
+        IfOk result (λ outcome. IsJoinList meet outcome.candidates.pairs) }
     ensures marks { let cut = cut_of options.now in let size = batch_of options.now in
         IfOk result (λ outcome. HasMarks relations.Intersects left.now.root right.now.root cut size
         outcome.candidates) }

@@ -8,7 +8,7 @@ use std::alloc::AllocError;
 use std::cmp::Ordering;
 
 /// The number of a feature, with the square of its distance from a geometry.
-#[derive(Clone, Copy, Debug)]
+#[derive(Clone, Copy)]
 pub struct AnyNeighbour {
     pub square: SquaredFraction,
     pub number: u32,

@@ -6,6 +6,7 @@ pub mod FilterLemmas
 pub mod PartLemmas
 pub mod ProperLemmas
 pub mod SampleLemmas
+pub mod SetLemmas
 pub mod ShareLemmas
 pub mod SlantLemmas
 pub mod SpanLemmas

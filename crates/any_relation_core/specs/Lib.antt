@@ -1,3 +1,4 @@
 pub mod AnyRelations
 pub mod Classes
 pub mod PlaneRelations
+pub mod PlaneSets

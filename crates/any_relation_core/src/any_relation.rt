@@ -8,7 +8,7 @@ use plane_core::Rings;
 use relation_core::{AllowsDisjoint, Relation};
 
 /// A relation that holds for no two disjoint geometries.
-#[derive(Clone, Copy, Debug, PartialEq, Eq)]
+#[derive(Clone, Copy, PartialEq, Eq)]
 pub struct AnyRelation {
     relation: Relation,
     rings: Rings,

@@ -8,7 +8,7 @@ use plane_core::Rings;
 use relation_core::{Extent, Matrix, Parts};
 
 /// Geometries whose interiors and boundaries have the same dimensions.
-#[derive(Clone, Copy, Debug, PartialEq, Eq)]
+#[derive(Clone, Copy, PartialEq, Eq)]
 pub(crate) enum Class {
     /// Points, which have no boundary.
     Points,

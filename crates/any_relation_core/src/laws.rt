@@ -1,14 +1,17 @@
-//! The law of the filter.
+//! The laws of the filter and of sets of points.
 
-ghost use Rattle.std.specs.Prelude.{All};
+ghost use Rattle.std.specs.Prelude.{◌↔◌, All};
 ghost use Rattle.geom_core.specs.declared.shape.Shape.{Shape};
 ghost use Rattle.geom_core.specs.Cells.{Meets};
+ghost use Rattle.relation_core.specs.declared.matrix.Matrix.{Matrix};
 ghost use Rattle.relation_core.specs.declared.relation.Relation.{Relation};
 ghost use Rattle.plane_core.specs.declared.rings.Rings.{Rings};
-ghost use Rattle.plane_core.specs.Figures.{Figure};
+ghost use Rattle.plane_core.specs.Figures.{Figure, IsGeometry};
+ghost use Rattle.plane_core.specs.PlaneMatrices.{IsPlaneMatrix};
 ghost use Rattle.plane_core.specs.ProperRings.{IsGeometryOf};
 ghost use Rattle.plane_core.specs.Vertices.{vertices_of, HoldsVertex};
 ghost use Rattle.any_relation_core.specs.PlaneRelations.{ForbidsDisjoint, HoldsOf};
+ghost use Rattle.any_relation_core.specs.PlaneSets.{HoldsOfSets};
 
 /// Law of the filter: the boxes of two geometries that stand in a relation meet, if no two disjoint
 /// geometries stand in it. So a search by boxes finds each pair of a join.
@@ -17,4 +20,12 @@ pub fn filter_law()
         → ForbidsDisjoint rings relation → IsGeometryOf rings g → IsGeometryOf rings h
         → All (HoldsVertex s) (vertices_of g) → All (HoldsVertex t) (vertices_of h)
         → HoldsOf relation g h → Meets s t }
+{}
+
+/// Law of sets: two geometries stand in a relation exactly where their points lie as its name says.
+/// Masks, crosses and overlaps are defined by the matrix alone.
+pub fn sets_law()
+    ensures { (relation : Relation) (g h : Figure) (m : Matrix)
+        → IsGeometry g → IsGeometry h → IsPlaneMatrix g h m
+        → HoldsOf relation g h ↔ HoldsOfSets relation g h }
 {}

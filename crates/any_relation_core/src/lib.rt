@@ -6,5 +6,5 @@ mod class;
 mod laws;
 
 pub use any_relation::AnyRelation;
-pub use laws::filter_law;
+pub use laws::{filter_law, sets_law};
 pub use plane_core::Rings;

@@ -11,7 +11,7 @@ use Rattle.run_core.specs.declared.fault.RunFault.{RunFault}
 use Rattle.run_core.specs.declared.fault.RunFault.TheVariants.{Geometry, Memory}
 use Rattle.layer_run_core.specs.LayerRuns.{LayerGives, IsLayerRunFault}
 use Rattle.layer_run_core.specs.Windows.{IsMeetingList}
-use Rattle.any_run_core.specs.Intersections.{Intersect}
+use Rattle.any_relation_core.specs.PlaneSets.{Intersect}
 
 -- the list of the features that share a point with a window
 abbrev pub IsAnyWindowList : AnyGeometry → Contents AnyGeometry → List ℕ → Type 0

@@ -1,4 +1,3 @@
 pub mod AnyJoinings
 pub mod AnyStats
 pub mod AnyWindows
-pub mod Intersections

@@ -3,7 +3,7 @@
 ghost use Rattle.std.specs.Prelude.{◌≡◌, ◌≢◌, ◌↔◌, IfOk, IsTrue};
 ghost use Rattle.relation_core.specs.declared.extent.Extent.TheVariants.{Empty};
 ghost use Rattle.any_geometry_core.specs.AnyGeometries.{figure_of};
-ghost use Rattle.any_run_core.specs.Intersections.{Intersect, HasCommon};
+ghost use Rattle.any_relation_core.specs.PlaneSets.{Intersect, HasCommon};
 
 use any_geometry_core::AnyGeometry;
 use any_join_core::{PreparedPair, matrix_of};

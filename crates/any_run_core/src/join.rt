@@ -37,7 +37,7 @@ use std::thread::Threads;
 use wkt_core::Scale;
 
 /// The condition of a join of any geometry.
-#[derive(Clone, Copy, Debug, PartialEq, Eq)]
+#[derive(Clone, Copy, PartialEq, Eq)]
 pub struct AnyCondition {
     /// The number of decimals that coordinates of the layers and the edits may have.
     pub scale: Scale,

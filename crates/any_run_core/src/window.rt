@@ -119,7 +119,7 @@ impl<'a> AnyWindow<'a> {
 /// It meets the geometries that share a point with it.
 impl<'a> Window<AnyGeometry> for AnyWindow<'a> {
     ghost use Rattle.any_geometry_core.specs.AnyGeometries.{figure_of};
-    ghost use Rattle.any_run_core.specs.Intersections.{Intersect};
+    ghost use Rattle.any_relation_core.specs.PlaneSets.{Intersect};
 
     ghost is_met = { λ window g. Intersect (figure_of g) (figure_of window) };
 

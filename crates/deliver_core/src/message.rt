@@ -1,7 +1,7 @@
 //! The messages that workers send to the collector.
 
 /// A message of one worker about one task.
-#[derive(Debug, PartialEq, Eq, Drop)]
+#[derive(PartialEq, Eq, Drop)]
 pub struct Message {
     /// The port of the worker that sends it.
     pub port: u32,
@@ -11,7 +11,7 @@ pub struct Message {
 }
 
 /// The content of a message.
-#[derive(Debug, PartialEq, Eq, Drop)]
+#[derive(PartialEq, Eq, Drop)]
 pub enum Body {
     /// The number of a batch of the task, from 0, and its pairs.
     Batch(u64, Vec<(u32, u32)>),

@@ -7,7 +7,7 @@ ghost use Rattle.distance_core.specs.Limits.{greatest_distance};
 pub const MAX_DISTANCE: u64 = 4_000_000_000_000;
 
 /// A distance of 0 to [`MAX_DISTANCE`] units.
-#[derive(Clone, Copy, Debug, PartialEq, Eq)]
+#[derive(Clone, Copy, PartialEq, Eq)]
 pub struct Distance {
     units: u64,
     ghost few: { units ≤ greatest_distance },

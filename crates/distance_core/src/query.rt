@@ -6,7 +6,7 @@ use crate::apart::SquaredDistance;
 use crate::distance::Distance;
 
 /// How many neighbours of a shape are asked for, and how far away they may be.
-#[derive(Clone, Copy, Debug, PartialEq, Eq)]
+#[derive(Clone, Copy, PartialEq, Eq)]
 pub struct Query {
     most: u32,
     within: Option<Distance>,

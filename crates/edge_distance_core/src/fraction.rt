@@ -11,7 +11,7 @@ use wide_core::Wide;
 
 /// The square of a distance, `numerator / denominator`, in square units of the grid: at most twice
 /// the square of twice [`LIMIT`](geom_core::LIMIT).
-#[derive(Clone, Copy, Debug)]
+#[derive(Clone, Copy)]
 pub struct SquaredFraction {
     pub numerator: Wide,
     pub denominator: u128,

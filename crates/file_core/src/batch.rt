@@ -14,7 +14,8 @@ use crate::insertion::add_parts;
 use crate::loading::Loading;
 use crate::parts::{Parts, read_four, read_two};
 use format_core::Format;
-use layer_core::{FeatureList, Geometry};
+use layer_core::Geometry;
+use layer_edit_core::FeatureListBuilder;
 use row_core::{ReadFault, ReadRow, RowReader, Rows, Unread, is_plain, read_row};
 use std::alloc::AllocError;
 use std::thread;
@@ -184,11 +185,11 @@ fn read_round<F: Format, R: Threads + Sync>(
 pub(crate) fn add_and_read<'a, F: Format, R: Threads + Sync>(
     reader: RowReader<F>,
     crew: &Crew<'_, R>,
-    loading: Loading<FeatureList<F::Geometry>>,
+    loading: Loading<FeatureListBuilder<F::Geometry>>,
     read: Vec<Vec<ReadRow<F::Geometry>>>,
     unread: Unread<'a>,
 ) -> (
-    Result<Loading<FeatureList<F::Geometry>>, ReadFault>,
+    Result<Loading<FeatureListBuilder<F::Geometry>>, ReadFault>,
     (Unread<'a>, Batch<F::Geometry>),
 )
     requires ids { All HasId (all_rows read.items) }
@@ -197,7 +198,7 @@ pub(crate) fn add_and_read<'a, F: Format, R: Threads + Sync>(
     ensures added { AnswersRows (loaded_of loading) (all_rows read.items) result.0 }
     ensures read { IsNext (F.reads reader.format) unread.entry result.1 }
 {
-    let add = move || -> Result<Loading<FeatureList<F::Geometry>>, ReadFault>
+    let add = move || -> Result<Loading<FeatureListBuilder<F::Geometry>>, ReadFault>
         requires ids { All HasId (all_rows read.items) }
         requires few { CanNumber (loaded_of loading) (all_rows read.items) }
         ensures { AnswersRows (loaded_of loading) (all_rows read.items) result }
@@ -215,9 +216,9 @@ pub(crate) fn add_and_read<'a, F: Format, R: Threads + Sync>(
 
 /// The rows before, with the rows of these parts added.
 fn with_parts<G: Geometry>(
-    mut loading: Loading<FeatureList<G>>,
+    mut loading: Loading<FeatureListBuilder<G>>,
     read: Vec<Vec<ReadRow<G>>>,
-) -> Result<Loading<FeatureList<G>>, ReadFault>
+) -> Result<Loading<FeatureListBuilder<G>>, ReadFault>
     requires ids { All HasId (all_rows read.items) }
     requires few { CanNumber (loaded_of loading) (all_rows read.items) }
     ensures { AnswersRows (loaded_of loading) (all_rows read.items) result }

@@ -21,7 +21,7 @@ const COLUMNS: [&str; 4] = ["op", "layer", "id", "wkt"];
 ///
 /// The file has the form of a layer's ([`crate::features_of_bytes`]). Its header is
 /// `op,layer,id,wkt`. A row's `op` is `insert` or `delete`, its `layer` is `left` or `right`, and
-/// in a deletion the last field is empty. Only [`Edit::apply`] looks up the ids.
+/// in a deletion the last field is empty. Only what applies them looks up the ids.
 ///
 /// # Errors
 /// [`ReadFault::TooLong`] and [`ReadFault::Header`], in this order, and then the fault of the

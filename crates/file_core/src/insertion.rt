@@ -13,12 +13,13 @@ ghost use Rattle.file_core.specs.SkippedRows.{with_unreadable};
 use crate::loading::{Loading, next_row};
 use crate::skipped::{SkippedRow, Unreadable};
 use format_core::TextFault;
-use layer_core::{FeatureList, Geometry, Id};
+use layer_core::{Geometry, Id};
+use layer_edit_core::FeatureListBuilder;
 use row_core::{ReadFault, ReadRow};
 
 /// Adds the next row, whose geometry was read: inserts its feature.
 fn insert<G: Geometry>(
-    loading: &mut Loading<FeatureList<G>>,
+    loading: &mut Loading<FeatureListBuilder<G>>,
     id: Id,
     shape: G,
 ) -> Result<(), ReadFault>
@@ -41,7 +42,7 @@ fn insert<G: Geometry>(
 /// Adds the next row, whose geometry can't be read: skips it, or refuses it.
 #[tactic(auto, using(crate::proofs::LoadedLemmas::skipped_push))]
 fn skip_or_refuse<G: Geometry>(
-    loading: &mut Loading<FeatureList<G>>,
+    loading: &mut Loading<FeatureListBuilder<G>>,
     id: Id,
     fault: TextFault,
 ) -> Result<(), ReadFault>
@@ -68,7 +69,7 @@ fn skip_or_refuse<G: Geometry>(
 
 /// Inserts the feature of the next row, or skips the row.
 pub(crate) fn add_row<G: Geometry>(
-    loading: &mut Loading<FeatureList<G>>,
+    loading: &mut Loading<FeatureListBuilder<G>>,
     row: ReadRow<G>,
 ) -> Result<(), ReadFault>
     requires id { HasId row }
@@ -90,7 +91,7 @@ pub(crate) fn add_row<G: Geometry>(
 
 /// Adds the rows in turn, up to the first that is refused.
 pub(crate) fn add_rows<G: Geometry>(
-    loading: &mut Loading<FeatureList<G>>,
+    loading: &mut Loading<FeatureListBuilder<G>>,
     rows: Vec<ReadRow<G>>,
 ) -> Result<(), ReadFault>
     requires ids { All HasId rows.items }
@@ -109,7 +110,7 @@ pub(crate) fn add_rows<G: Geometry>(
 
 /// Adds the rows of the parts in turn, up to the first that is refused.
 pub(crate) fn add_parts<G: Geometry>(
-    loading: &mut Loading<FeatureList<G>>,
+    loading: &mut Loading<FeatureListBuilder<G>>,
     parts: Vec<Vec<ReadRow<G>>>,
 ) -> Result<(), ReadFault>
     requires ids { All HasId (all_rows parts.items) }

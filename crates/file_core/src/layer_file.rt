@@ -17,6 +17,7 @@ use crate::loading::{Loading, begin};
 use crate::skipped::{Unreadable, WithSkipped};
 use format_core::Format;
 use layer_core::{FeatureList, Geometry, Layer, MAX_FEATURES};
+use layer_edit_core::FeatureListBuilder;
 use row_core::{ReadFault, RowReader, Source, Unread, read_all};
 use std::alloc::Global;
 use std::hash::RandomState;
@@ -43,7 +44,7 @@ impl<F: Format, R: Threads + Sync> LayerReader<'_, F, R> {
     ///
     /// The file has records of comma-separated fields with double quotes if needed (RFC 4180), with
     /// line ends LF or CR LF. Its header is `id,wkt`, in any ASCII case, with or without a byte
-    /// order mark before it. Each row inserts a feature, by [`FeatureList::add`].
+    /// order mark before it. Each row inserts a feature, by [`FeatureListBuilder::add`].
     ///
     /// # Errors
     /// [`ReadFault::TooLong`] and [`ReadFault::Header`], in this order, and then the fault of the
@@ -60,7 +61,8 @@ impl<F: Format, R: Threads + Sync> LayerReader<'_, F, R> {
             → IsLayerFile (F.reads self.now.format) bytes.now result }
         ensures no_io { result ≢ Err ReadFault.Io }
     {
-        Ok(self.load(Unreadable::Refuse, state, bytes)?.features)
+        let loading = self.load(Unreadable::Refuse, state, bytes)?;
+        Ok(loading.features.finish()?)
     }
 
     /// The layer of a CSV file, read as by [`LayerReader::features_of_bytes`]. At most `threads`
@@ -128,7 +130,7 @@ impl<F: Format, R: Threads + Sync> LayerReader<'_, F, R> {
             ..
         } = self.load(unreadable, state, bytes)?;
         Ok(WithSkipped {
-            read: features,
+            read: features.finish()?,
             skipped,
         })
     }
@@ -166,7 +168,7 @@ impl<F: Format, R: Threads + Sync> LayerReader<'_, F, R> {
         unreadable: Unreadable,
         state: RandomState,
         bytes: &[u8],
-    ) -> Result<Loading<FeatureList<F::Geometry>>, ReadFault>
+    ) -> Result<Loading<FeatureListBuilder<F::Geometry>>, ReadFault>
         ensures file { result ≢ Err ReadFault.Memory
             → LoadsFile (F.reads self.now.format) unreadable bytes.now (loaded_or result) }
         ensures no_io { result ≢ Err ReadFault.Io }
@@ -199,7 +201,7 @@ fn load<F: Format, R: Threads + Sync>(
     unreadable: Unreadable,
     state: RandomState,
     bytes: &[u8],
-) -> Result<Loading<FeatureList<F::Geometry>>, ReadFault>
+) -> Result<Loading<FeatureListBuilder<F::Geometry>>, ReadFault>
     ensures file { result ≢ Err ReadFault.Memory
         → LoadsFile (F.reads reader.format) unreadable bytes.now (loaded_or result) }
     ensures no_io { result ≢ Err ReadFault.Io }
@@ -222,7 +224,7 @@ fn load<F: Format, R: Threads + Sync>(
 /// The state of reading a file: the rows added, the batch after them, and the unread rest.
 #[derive(Drop)]
 struct Round<'a, G: Geometry> {
-    loading: Loading<FeatureList<G>>,
+    loading: Loading<FeatureListBuilder<G>>,
     batch: Batch<G>,
     unread: Unread<'a>,
 }
@@ -261,9 +263,9 @@ fn next_round<'a, F: Format, R: Threads + Sync>(
 
 /// Adds the rows of the last batch, and returns the fault of the row after it, if any.
 fn add_last<G: Geometry>(
-    mut loading: Loading<FeatureList<G>>,
+    mut loading: Loading<FeatureListBuilder<G>>,
     batch: Batch<G>,
-) -> Result<Loading<FeatureList<G>>, ReadFault>
+) -> Result<Loading<FeatureListBuilder<G>>, ReadFault>
     requires ids { All HasId (all_rows batch.rows.items) }
     requires few { CanNumber (loaded_of loading) (all_rows batch.rows.items) }
     requires no_io { batch.more ≢ Err ReadFault.Io }

@@ -5,7 +5,8 @@ ghost use Rattle.row_core.specs.Rows.{most_rows};
 ghost use Rattle.file_core.specs.SkippedRows.{begun, loaded_of, rows_in};
 
 use crate::skipped::{SkippedRow, Unreadable};
-use layer_core::{FeatureList, Geometry};
+use layer_core::Geometry;
+use layer_edit_core::FeatureListBuilder;
 use std::alloc::{AllocError, Global};
 use std::hash::RandomState;
 
@@ -24,11 +25,11 @@ pub(crate) fn begin<G: Geometry>(
     state: RandomState,
     unreadable: Unreadable,
     likely_rows: usize,
-) -> Result<Loading<FeatureList<G>>, AllocError>
+) -> Result<Loading<FeatureListBuilder<G>>, AllocError>
     ensures { IfOk result (λ loading. loaded_of loading ≡ begun unreadable) }
 {
     Ok(Loading {
-        features: FeatureList::new(alloc, state, likely_rows)?,
+        features: FeatureListBuilder::new(alloc, state, likely_rows)?,
         skipped: Vec::new(alloc),
         unreadable,
     })
@@ -36,7 +37,7 @@ pub(crate) fn begin<G: Geometry>(
 
 /// The number of the next row.
 #[tactic(auto, using(crate::proofs::LoadedLemmas::length_skipped))]
-pub(crate) fn next_row<G: Geometry>(loading: &Loading<FeatureList<G>>) -> u32
+pub(crate) fn next_row<G: Geometry>(loading: &Loading<FeatureListBuilder<G>>) -> u32
     requires { rows_in (loaded_of loading.now) + 1 ≤ most_rows }
     ensures { result ≡ rows_in (loaded_of loading.now) + 1 }
 {

@@ -5,7 +5,7 @@ use layer_core::Id;
 use row_core::ReadFault;
 
 /// How a layer is read that has rows whose geometry can't be read.
-#[derive(Clone, Copy, Debug, PartialEq, Eq)]
+#[derive(Clone, Copy, PartialEq, Eq)]
 pub enum Unreadable {
     /// The first such row is a fault of the file.
     Refuse,

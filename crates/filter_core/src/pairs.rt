@@ -21,9 +21,9 @@ use std::thread::Threads;
 /// The pairs of numbers of the left and right features whose boxes stand in the relation, in order,
 /// with the marks of their delivery.
 ///
-/// The trees of the two layers are cut into tasks, to the depth that the options give. Workers,
-/// each in a thread of its own, draw the tasks and descend the two subtrees of each. All workers
-/// have ended when the call returns.
+/// The trees of the two layers are cut into tasks, to the depth that the options give. Workers draw
+/// the tasks and descend the two subtrees of each: one on the caller's thread, several each in a
+/// thread of its own. All workers have ended when the call returns.
 ///
 /// # Errors
 /// `Memory` if an allocation fails, and `NoThread` if a worker's thread can't be started.

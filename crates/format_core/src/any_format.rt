@@ -8,7 +8,7 @@ use std::alloc::{AllocError, Global};
 use wkt_core::Scale;
 
 /// Geometries of any kind, with coordinates at a scale, and rings as a rule allows them.
-#[derive(Clone, Copy, Debug, PartialEq, Eq)]
+#[derive(Clone, Copy, PartialEq, Eq)]
 pub struct AnyFormat {
     pub scale: Scale,
     pub rings: Rings,

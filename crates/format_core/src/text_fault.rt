@@ -4,7 +4,7 @@ use wkt_any_core::GeometryFault;
 use wkt_core::WktFault;
 
 /// Why a text spells no geometry of its format.
-#[derive(Clone, Copy, Debug, PartialEq, Eq)]
+#[derive(Clone, Copy, PartialEq, Eq)]
 pub enum TextFault {
     /// The text of a box.
     Wkt(WktFault),

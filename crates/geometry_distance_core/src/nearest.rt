@@ -12,7 +12,7 @@ use geom_core::Shape;
 use plane_core::Edge;
 
 /// The least squared distance of some pairs of points, if it is at most the square of a distance.
-#[derive(Clone, Copy, Debug)]
+#[derive(Clone, Copy)]
 pub(crate) struct Nearest {
     pub(crate) distance: Distance,
     pub(crate) square: Option<SquaredFraction>,

@@ -5,7 +5,7 @@ use relation_core::JoinRelation;
 use wkt_core::Scale;
 
 /// A join of two layers after edits: which features are pairs, and the output made of them.
-#[derive(Clone, Copy, Debug, PartialEq, Eq)]
+#[derive(Clone, Copy, PartialEq, Eq)]
 pub struct JoinJob<C> {
     /// How geometries are read, and which two are a pair.
     pub condition: C,
@@ -14,7 +14,7 @@ pub struct JoinJob<C> {
 }
 
 /// The condition of a join of boxes.
-#[derive(Clone, Copy, Debug, PartialEq, Eq)]
+#[derive(Clone, Copy, PartialEq, Eq)]
 pub struct BoxCondition {
     /// The number of decimals that coordinates of the layers and the edits may have.
     pub scale: Scale,

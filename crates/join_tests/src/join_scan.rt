@@ -1,7 +1,7 @@
 //! Joins of mixed, clustered and coincident features, packed and edited, compared with a nested
 //! loop.
 
-use crate::layers::{edited, seen};
+use crate::join_layers::{edited, seen};
 use filter_core::join;
 use layer_core::{FeatureRef, Layer};
 use options_core::Options;

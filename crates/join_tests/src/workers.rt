@@ -1,6 +1,6 @@
 //! The deliveries of a join's workers, checked by the marks of its outcome and by a gate.
 
-use crate::layers::{points, seen};
+use crate::join_layers::{points, seen};
 use deliver_core::{Mark, Outcome};
 use filter_core::join;
 use layer_core::Layer;

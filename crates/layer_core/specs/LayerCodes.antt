@@ -3,12 +3,8 @@ use Rattle.std.specs.Prelude.{ℕ, List, Option, refl}
 use Rattle.std.specs.Coded.{Coded, code_by, coded×, coded_ℕ, coded_list, coded_option}
 use Rattle.rtree_core.specs.declared.node.Node.{Node}
 use Rattle.rtree_core.specs.contracts.node.Node as node
-use Rattle.layer_core.specs.declared.id.Id.{Id}
-use Rattle.layer_core.specs.contracts.id.Id as id
 use Rattle.layer_core.specs.Layers.{Feature, Contents}
 use Rattle.layer_core.specs.LayerTrees.{LayerState}
-use Rattle.layer_core.specs.MapAndSlots.{FeaturesState}
-use Rattle.layer_core.specs.RisingIds.{IdsState}
 
 -- a feature, as its id, its number and its shape
 abbrev pub coded_feature : {G : Type 0} → Coded G → Coded (Feature G)
@@ -30,19 +26,3 @@ coded_layer {G = G} coded_shape =
     code_by (Contents G × Option Node)
     (coded× (coded_contents coded_shape) (coded_option node.the_row.coded))
     (λ s. (s.list, s.root)) (λ p. record { list = p.0; root = p.1 }) (λ _. refl)
-
--- the list with the room
-abbrev pub coded_features : {G : Type 0} → Coded G → Coded (FeaturesState G)
-coded_features {G = G} coded_shape =
-    code_by (Contents G × (ℕ × ℕ)) (coded× (coded_contents coded_shape) (coded× coded_ℕ coded_ℕ))
-    (λ s. (s.list, (s.room, s.rising_room)))
-    (λ p. record { list = p.0; room = p.1.0; rising_room = p.1.1 }) (λ _. refl)
-
--- ids and their numbers, with the room
-abbrev pub coded_ids : Coded IdsState
-coded_ids =
-    code_by (List (Id × Option ℕ) × (ℕ × ℕ))
-    (coded× (coded_list (coded× id.the_row.coded (coded_option coded_ℕ)))
-    (coded× coded_ℕ coded_ℕ))
-    (λ s. (s.entries, (s.room, s.rising_room)))
-    (λ p. record { entries = p.0; room = p.1.0; rising_room = p.1.1 }) (λ _. refl)

@@ -1,20 +1,16 @@
-//! The features of a layer without a tree: they are inserted one by one, and then a tree may be
-//! packed from them.
+//! The features of a layer without a tree, from which one may be packed.
 
 ghost use Rattle.std.specs.Prelude.{◌≡◌, IfOk};
 ghost use Rattle.layer_core.specs.LayerTrees.{entries_for};
 
-use crate::fault::LayerFault;
-use crate::features::{Features, MAX_FEATURES};
+use crate::features::{Features, Parts};
 use crate::geometry::Geometry;
-use crate::id::Id;
 use crate::iter::Iter;
 use crate::layer::Layer;
 use crate::stats::Stats;
 use geom_core::Shape;
 use rtree_core::{Entry, RTree};
 use std::alloc::{AllocError, Global};
-use std::hash::RandomState;
 use std::marker::Model;
 use std::thread::Threads;
 
@@ -32,57 +28,48 @@ impl<G: Geometry> Model for FeatureList<G> {
 
     ghost coded = { coded_contents G.code };
 
-    ghost view = { λ l. l.features.value.list };
+    ghost view = { λ l. l.features.value };
 }
 
 impl<G: Geometry> FeatureList<G> {
-    ghost use Rattle.std.specs.Prelude.{◌≡◌, ◌≤◌, length, IsTrue, OnOk, OnErr, IfOk, IfSome};
+    ghost use Rattle.std.specs.Prelude.{◌≡◌, length, IfOk, IfSome};
+    ghost use Rattle.std.specs.Map.{keys_of};
     ghost use Rattle.rtree_core.specs.Packings.{IsPackingOf, IsPackedHeight};
     ghost use Rattle.rtree_core.specs.Trees.{height_of};
-    ghost use Rattle.layer_core.specs.Ids.{id_bytes};
-    ghost use Rattle.layer_core.specs.Layers.{empty, inserted, IsLayer};
-    ghost use Rattle.layer_core.specs.Limits.{most_features};
-    ghost use Rattle.layer_core.specs.Refusals.{is_id, AnswersWith, insert_refusal};
+    ghost use Rattle.layer_core.specs.IdsAndSlots.{StandForLayer, contents_of};
+    ghost use Rattle.layer_core.specs.Layers.{IsLayer};
     ghost use Rattle.layer_core.specs.Statistics.{counts_of};
 
-    /// An empty list with room for `room` features. `state` hashes the ids.
-    pub fn new(alloc: Global, state: RandomState, room: usize) -> Result<FeatureList<G>, AllocError>
-        ensures { IfOk result (λ loading. loading ≡ empty) }
+    /// The list that these parts stand for.
+    pub fn from_parts(alloc: Global, parts: Parts<G>) -> Result<FeatureList<G>, AllocError>
+        requires { StandForLayer parts.ids.items parts.slots.items parts.count }
+        ensures { let contents = contents_of (keys_of parts.ids.items) parts.slots.items in
+            IfOk result (λ list. list ≡ contents) }
     {
         Ok(FeatureList {
-            features: Box::new(alloc, Features::with_room(alloc, state, room)?)?,
+            features: Box::new(alloc, Features::from_parts(parts))?,
         })
     }
 
-    /// The number of features that were inserted.
-    pub fn inserted(&self) -> u32
-        ensures count { result ≡ self.now.next }
-        ensures few { result ≤ most_features }
+    /// The parts that stand for this list.
+    pub fn into_parts(self) -> Parts<G>
+        ensures same { contents_of (keys_of result.ids.items) result.slots.items ≡ self }
+        ensures stand { StandForLayer result.ids.items result.slots.items result.count }
     {
-        self.features.next() as u32
+        Box::into_inner(self.features).into_parts()
     }
 
-    /// Inserts a feature at the end, under an id that [`crate::is_id`] allows.
-    ///
-    /// # Errors
-    /// `DoubleId`, else `LayerFull`, else `Memory`. The list is then unchanged.
-    pub fn add(&mut self, id: Id, shape: G) -> Result<(), LayerFault>
-        requires { IsTrue (is_id (id_bytes id)) }
-        ensures ok { OnOk result (self.new ≡ inserted self.old (id_bytes id) shape) }
-        ensures err { OnErr result (self.new ≡ self.old) }
-        ensures refused { AnswersWith (insert_refusal self.old (id_bytes id)) result }
+    /// The list of these features.
+    pub(crate) fn from_features(features: Box<Features<G>>) -> FeatureList<G>
+        ensures { result ≡ features.value }
     {
-        if self.features.next() >= MAX_FEATURES {
-            return match self.features.find(id.as_str()) {
-                Some(_) => Err(LayerFault::DoubleId),
-                None => Err(LayerFault::LayerFull),
-            };
-        }
-        if self.features.insert(id, shape)? {
-            Ok(())
-        } else {
-            Err(LayerFault::DoubleId)
-        }
+        FeatureList { features }
+    }
+
+    pub(crate) fn into_features(self) -> Box<Features<G>>
+        ensures { result.value ≡ self }
+    {
+        self.features
     }
 
     /// The features in layer order.
@@ -135,7 +122,7 @@ impl<G: Geometry> FeatureList<G> {
 
 /// The entries of a tree over these features.
 fn entries_of<G: Geometry>(alloc: Global, features: &Features<G>) -> Result<Vec<Entry>, AllocError>
-    ensures { IfOk result (λ entries. entries.items ≡ entries_for G.box_of features.now.list) }
+    ensures { IfOk result (λ entries. entries.items ≡ entries_for G.box_of features.now) }
 {
     let mut entries = Vec::with_capacity(alloc, features.len())?;
     for feature in features.iter() {

@@ -3,16 +3,15 @@
 ghost use Rattle.std.specs.Prelude.{◌≡◌};
 ghost use Rattle.std.specs.Iterator.{YieldsFirstBy, item_count};
 ghost use Rattle.std.specs.Map.{keys_of};
-ghost use Rattle.layer_core.specs.MapAndSlots.{features_from, ids_of, IsWalk};
+ghost use Rattle.layer_core.specs.IdsAndSlots.{features_from, ids_of, IsWalk};
 ghost use Rattle.layer_core.specs.Walks.{feature_read};
 
-use crate::features::Slot;
-use crate::ids::Ids;
+use crate::features::{NumberedId, Slot, id_at};
 use geom_core::Shape;
 use std::marker::Model;
 
 /// A feature of a layer.
-#[derive(Debug, Drop, PartialEq, Eq)]
+#[derive(Drop, PartialEq, Eq)]
 pub struct FeatureRef<'a, G = Shape> {
     pub id: &'a str,
     pub number: u32,
@@ -22,7 +21,7 @@ pub struct FeatureRef<'a, G = Shape> {
 /// The features of a layer, in layer order.
 #[derive(Drop)]
 pub struct Iter<'a, G = Shape> {
-    ids: &'a Ids,
+    ids: &'a [NumberedId],
     slots: &'a [Option<Slot<G>>],
     /// The number of the first slot.
     number: u32,
@@ -35,19 +34,19 @@ impl<'a, G> Model for Iter<'a, G> {
     ghost Value = { List (Feature G) };
 
     ghost use Rattle.std.specs.Map.{keys_of};
-    ghost use Rattle.layer_core.specs.MapAndSlots.{features_from, ids_of, IsWalk};
+    ghost use Rattle.layer_core.specs.IdsAndSlots.{features_from, ids_of, IsWalk};
 
     ghost view = { λ it.
-        features_from (ids_of (keys_of it.ids.now.entries)) it.number it.slots.now };
+        features_from (ids_of (keys_of it.ids.now)) it.number it.slots.now };
 
-    ghost invariant = { λ it. IsWalk it.ids.now.entries it.number it.slots.now };
+    ghost invariant = { λ it. IsWalk it.ids.now it.number it.slots.now };
 }
 
 impl<'a, G> Iter<'a, G> {
     /// The features in these slots, of which the first has the number 0.
-    pub(crate) fn new(ids: &'a Ids, slots: &'a [Option<Slot<G>>]) -> Iter<'a, G>
-        requires { IsWalk ids.now.entries 0 slots.now }
-        ensures { result ≡ features_from (ids_of (keys_of ids.now.entries)) 0 slots.now }
+    pub(crate) fn new(ids: &'a [NumberedId], slots: &'a [Option<Slot<G>>]) -> Iter<'a, G>
+        requires { IsWalk ids.now 0 slots.now }
+        ensures { result ≡ features_from (ids_of (keys_of ids.now)) 0 slots.now }
     {
         Iter {
             ids,
@@ -70,10 +69,9 @@ impl<'a, G> Iterator for Iter<'a, G> {
             self.number += 1;
             self.slots = others;
             if let Some(slot) = first {
-                let (id, _) = self.ids.at(slot.place)?;
-                let text = id.as_str();
+                let id = id_at(self.ids, slot.place)?;
                 return Some(FeatureRef {
-                    id: text,
+                    id,
                     number,
                     shape: &slot.shape,
                 });

@@ -3,15 +3,14 @@
 ghost use Rattle.std.specs.Prelude.{◌≡◌};
 ghost use Rattle.layer_core.specs.Refusals.{is_id};
 
-use crate::fault::LayerFault;
-use crate::features::{Features, MAX_FEATURES};
+use crate::feature_list::FeatureList;
+use crate::features::Features;
 use crate::geometry::Geometry;
 use crate::iter::Iter;
 use crate::stats::Stats;
 use geom_core::Shape;
 use rtree_core::{Entry, RTree};
 use std::alloc::{AllocError, Global};
-use std::hash::RandomState;
 use std::marker::Model;
 use std::thread::Threads;
 
@@ -23,14 +22,13 @@ pub const MAX_ID_BYTES: usize = 64;
 ///
 /// Numbers start at 0, increase by one with each insertion and are never reused, so a feature that
 /// is deleted and inserted again goes to the end. An id has 1 to [`MAX_ID_BYTES`] bytes of UTF-8,
-/// and ids are compared by bytes. At most [`MAX_FEATURES`] features are ever inserted.
+/// and ids are compared by bytes. At most [`crate::MAX_FEATURES`] features are ever inserted.
 ///
 /// An R-tree holds exactly these features, each as its box with its number. Both are boxed, so
 /// that a layer is moved and dropped as two pointers.
 ///
-/// A lookup by number takes constant time. A lookup by id takes constant time, or logarithmic time
-/// if the ids were inserted in ascending order. An edit takes logarithmic time, amortised while the
-/// layer grows.
+/// A lookup by number takes constant time. Lookups by id and edits are those of an editor, which
+/// finds ids.
 #[derive(Drop)]
 pub struct Layer<G: Geometry = Shape> {
     features: Box<Features<G>>,
@@ -47,9 +45,9 @@ impl<G: Geometry> Model for Layer<G> {
 
     ghost use Rattle.layer_core.specs.LayerTrees.{HoldsExactly};
 
-    ghost view = { λ layer. record { list = layer.features.value.list; root = layer.tree.value } };
+    ghost view = { λ layer. record { list = layer.features.value; root = layer.tree.value } };
 
-    ghost invariant = { λ layer. HoldsExactly G.box_of layer.features.value.list layer.tree.value };
+    ghost invariant = { λ layer. HoldsExactly G.box_of layer.features.value layer.tree.value };
 }
 
 /// Whether a text is an id: it has 1 to [`MAX_ID_BYTES`] bytes.
@@ -60,27 +58,31 @@ pub fn is_id(id: &str) -> bool
 }
 
 impl<G: Geometry> Layer<G> {
-    ghost use Rattle.std.specs.Prelude.{◌≡◌, ◌↔◌, [], None, Some, length, IsTrue, OnOk, OnErr};
-    ghost use Rattle.std.specs.Prelude.{◌<◌, IfOk, IfSome, IfNone};
-    ghost use Rattle.std.specs.Option.{option_map};
+    ghost use Rattle.std.specs.Prelude.{◌≡◌, ◌↔◌, [], length, IsTrue, IfOk, IfSome};
     ghost use Rattle.rtree_core.specs.Packings.{IsPackingOf, IsPackedHeight};
     ghost use Rattle.rtree_core.specs.Trees.{height_of};
-    ghost use Rattle.layer_core.specs.Limits.{most_features};
-    ghost use Rattle.layer_core.specs.Layers.{empty, IsLayer, IdAndShapeAre, NumberAndShapeAre};
-    ghost use Rattle.layer_core.specs.Layers.{ShapeIs};
-    ghost use Rattle.layer_core.specs.Layers.{with_id, with_number, inserted, deleted};
-    ghost use Rattle.layer_core.specs.LayerTrees.{entries_for, IsTreeOf};
-    ghost use Rattle.layer_core.specs.Refusals.{AnswersWith, insert_refusal, delete_refusal};
+    ghost use Rattle.layer_core.specs.Layers.{IsLayer, IdAndShapeAre, ShapeIs, with_number};
+    ghost use Rattle.layer_core.specs.LayerTrees.{HoldsExactly, entries_for, IsTreeOf};
     ghost use Rattle.layer_core.specs.Statistics.{stats_of};
 
-    /// A layer with no features. `state` hashes the ids.
-    pub fn new(alloc: Global, state: RandomState) -> Result<Layer<G>, AllocError>
-        ensures { IfOk result (λ layer. layer ≡ record { list = empty; root = None }) }
+    /// The layer of this list and of a tree that holds exactly its features.
+    pub fn from_list(list: FeatureList<G>, tree: Box<RTree>) -> Layer<G>
+        requires { HoldsExactly G.box_of list tree.value }
+        ensures { result ≡ record { list = list; root = tree.value } }
     {
-        Ok(Layer {
-            features: Box::new(alloc, Features::new(alloc, state))?,
-            tree: Box::new(alloc, RTree::new(alloc))?,
-        })
+        Layer {
+            features: list.into_features(),
+            tree,
+        }
+    }
+
+    /// The list and the tree.
+    pub fn into_list(self) -> (FeatureList<G>, Box<RTree>)
+        ensures list { result.0 ≡ self.list }
+        ensures root { result.1.value ≡ self.root }
+        ensures exact { HoldsExactly G.box_of self.list self.root }
+    {
+        (FeatureList::from_features(self.features), self.tree)
     }
 
     /// The layer of these features, whose tree is packed from their entries.
@@ -89,12 +91,12 @@ impl<G: Geometry> Layer<G> {
         features: Box<Features<G>>,
         entries: Vec<Entry>,
     ) -> Result<Layer<G>, AllocError>
-        requires { entries.items ≡ entries_for G.box_of features.value.list }
-        ensures list { IfOk result (λ layer. layer.list ≡ features.value.list) }
-        ensures packing { let entries = entries_for G.box_of features.value.list in
+        requires { entries.items ≡ entries_for G.box_of features.value }
+        ensures list { IfOk result (λ layer. layer.list ≡ features.value) }
+        ensures packing { let entries = entries_for G.box_of features.value in
             IfOk result (λ layer. IfSome layer.root (IsPackingOf entries)) }
         ensures height { IfOk result
-            (λ layer. IsPackedHeight (length features.value.list.features) (height_of layer.root)) }
+            (λ layer. IsPackedHeight (length features.value.features) (height_of layer.root)) }
     {
         // Packing requires distinct numbers, which the invariant of the features gives.
         let _len = features.len();
@@ -113,12 +115,12 @@ impl<G: Geometry> Layer<G> {
         threads: u32,
         rt: &R,
     ) -> Result<Layer<G>, AllocError>
-        requires { entries.items ≡ entries_for G.box_of features.value.list }
-        ensures list { IfOk result (λ layer. layer.list ≡ features.value.list) }
-        ensures packing { let entries = entries_for G.box_of features.value.list in
+        requires { entries.items ≡ entries_for G.box_of features.value }
+        ensures list { IfOk result (λ layer. layer.list ≡ features.value) }
+        ensures packing { let entries = entries_for G.box_of features.value in
             IfOk result (λ layer. IfSome layer.root (IsPackingOf entries)) }
         ensures height { IfOk result
-            (λ layer. IsPackedHeight (length features.value.list.features) (height_of layer.root)) }
+            (λ layer. IsPackedHeight (length features.value.features) (height_of layer.root)) }
     {
         let _len = features.len();
         let packed = RTree::pack_by_threads(alloc, entries, threads, rt);
@@ -161,14 +163,6 @@ impl<G: Geometry> Layer<G> {
         &self.tree
     }
 
-    /// The number and the shape of the feature with this id.
-    pub fn find(&self, id: &str) -> Option<(u32, &G)>
-        ensures found { NumberAndShapeAre result (with_id id.now self.now.list) }
-        ensures layer { IsLayer self.now.list }
-    {
-        self.features.find(id)
-    }
-
     /// The id and the shape of the feature with this number.
     pub fn at(&self, number: u32) -> Option<(&str, &G)>
         ensures found { IdAndShapeAre result (with_number number self.now.list) }
@@ -182,80 +176,6 @@ impl<G: Geometry> Layer<G> {
         ensures { ShapeIs result (with_number number self.now.list) }
     {
         self.features.shape(number)
-    }
-
-    /// Inserts a feature at the end of the layer.
-    ///
-    /// # Errors
-    /// `BadId`, else `DoubleId`, else `LayerFull`, else `Memory`. The layer is then unchanged.
-    pub fn insert(&mut self, id: &str, shape: G) -> Result<(), LayerFault>
-        ensures ok { OnOk result (self.new.list ≡ inserted self.old.list id.now shape) }
-        ensures err { OnErr result (self.new ≡ self.old) }
-        ensures refused { AnswersWith (insert_refusal self.old.list id.now) result }
-    {
-        if let Some(refusal) = self.insert_refusal(id) {
-            return Err(refusal);
-        }
-        self.features.reserve()?;
-        let id = self.features.owned(id)?;
-        let number = self.features.next() as u32;
-        let entry = Entry {
-            shape: shape.bounds(),
-            number,
-        };
-        self.tree.insert(entry)?;
-        // Its room is reserved, so nothing fails after the tree has changed.
-        match self.features.insert(id, shape) {
-            Ok(_) => Ok(()),
-            Err(_) => unreachable!(),
-        }
-    }
-
-    /// Why a feature with this id can't be inserted, apart from lack of memory.
-    fn insert_refusal(&self, id: &str) -> Option<LayerFault>
-        ensures refusal { result ≡ insert_refusal self.now.list id.now }
-        ensures absent { IfNone result (with_id id.now self.now.list ≡ None) }
-        ensures below { IfNone result (self.now.list.next < most_features) }
-        ensures layer { IfNone result (IsLayer self.now.list) }
-    {
-        if !is_id(id) {
-            return Some(LayerFault::BadId);
-        }
-        if self.features.find(id).is_some() {
-            return Some(LayerFault::DoubleId);
-        }
-        if self.features.next() >= MAX_FEATURES {
-            return Some(LayerFault::LayerFull);
-        }
-        None
-    }
-
-    /// Deletes the feature with this id and returns its shape.
-    ///
-    /// # Errors
-    /// `BadId`, else `NoSuchId`, else `Memory`. The layer is then unchanged.
-    pub fn remove(&mut self, id: &str) -> Result<G, LayerFault>
-        ensures ok { OnOk result (self.new.list ≡ deleted self.old.list id.now) }
-        ensures shape { IfOk result
-            (λ s. option_map (λ f. f.shape) (with_id id.now self.old.list) ≡ Some s) }
-        ensures err { OnErr result (self.new ≡ self.old) }
-        ensures refused { AnswersWith (delete_refusal self.old.list id.now) result }
-    {
-        if !is_id(id) {
-            return Err(LayerFault::BadId);
-        }
-        let found = self.features.find(id);
-        let (number, shape) = found.ok_or(LayerFault::NoSuchId)?;
-        let entry = Entry {
-            shape: shape.bounds(),
-            number,
-        };
-        // The tree holds an entry for each feature, so the result is always true.
-        let _held = self.tree.remove(&entry)?;
-        match self.features.delete(id) {
-            Some(shape) => Ok(shape),
-            None => unreachable!(),
-        }
     }
 
     /// The features in layer order.

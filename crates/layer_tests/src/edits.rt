@@ -1,12 +1,13 @@
 //! Layers and their edits.
 
+use crate::edited::{Edited, on_empty};
+use crate::layers::{has_features, point, seen, state};
+use crate::read_layers::{layer_of, points_file, whole};
 use file_core::edits_of_bytes;
 use geom_core::Shape;
-use layer_core::{Edit, FeatureList, FeatureRef, Id, Layer, LayerFault, Side, Stats, is_id};
-use layer_test_data::{
-    finds, has_features, layer_of, on_empty, point, points_file, seen, state, whole,
-};
-use std::alloc::{AllocGlobal, Global};
+use layer_core::{Edit, FeatureRef, Id, Layer, LayerFault, Side, Stats, is_id};
+use layer_edit_core::{FeatureListBuilder, LayerEditor, apply_edit};
+use std::alloc::{AllocError, AllocGlobal, Global};
 use std::hash::RandomState;
 use std::random::RandomSource;
 use std::test::Fail;
@@ -70,12 +71,17 @@ const LISTED: &[(&str, u32)] = &[("b", 1), ("c", 2), ("a", 3)];
 const EDITS: &[u8] = b"op,layer,id,wkt\r\ninsert,left,a,POINT (1 2)\r\n\
       insert,right,b,\"LINESTRING (0 0, 0 3)\"\r\ndelete,left,a,\r\n";
 
+/// Whether the id of the layer's feature is found, with this number and shape.
+fn finds(edited: &mut Edited, id: &str, number: u32, shape: Shape) -> Result<bool, AllocError> {
+    Ok(edited.find(id)? == Some((number, shape)))
+}
+
 /// Whether each insertion has its result, and changes the layer unless it is refused.
-fn inserts(alloc: Global, layer: &mut Layer, points: &[Insertion]) -> Result<bool, Fail> {
+fn inserts(alloc: Global, edited: &mut Edited, points: &[Insertion]) -> Result<bool, Fail> {
     for (id, x, answer) in points {
-        let before = state(alloc, layer)?;
-        let is_so = layer.insert(id, point(*x, *x)?) == *answer;
-        let is_same = state(alloc, layer)?.as_str() == before.as_str();
+        let before = state(alloc, &edited.layer)?;
+        let is_so = edited.insert(id, point(*x, *x)?) == *answer;
+        let is_same = state(alloc, &edited.layer)?.as_str() == before.as_str();
         if !is_so || is_same != answer.is_err() {
             return Ok(false);
         }
@@ -84,26 +90,26 @@ fn inserts(alloc: Global, layer: &mut Layer, points: &[Insertion]) -> Result<boo
 }
 
 /// Whether the removal of an id fails because no feature has it, and changes nothing.
-fn removes_none(alloc: Global, layer: &mut Layer, id: &str) -> Result<bool, Fail> {
-    let before = state(alloc, layer)?;
-    let is_refused = layer.remove(id) == Err(LayerFault::NoSuchId);
-    Ok(is_refused && state(alloc, layer)?.as_str() == before.as_str())
+fn removes_none(alloc: Global, edited: &mut Edited, id: &str) -> Result<bool, Fail> {
+    let before = state(alloc, &edited.layer)?;
+    let is_refused = edited.remove(id) == Err(LayerFault::NoSuchId);
+    Ok(is_refused && state(alloc, &edited.layer)?.as_str() == before.as_str())
 }
 
 /// Whether the removal of the feature with this id returns this shape.
-fn removes(layer: &mut Layer, id: &str, shape: Shape) -> bool {
-    layer.remove(id) == Ok(shape)
+fn removes(edited: &mut Edited, id: &str, shape: Shape) -> bool {
+    edited.remove(id) == Ok(shape)
 }
 
 /// Whether an empty layer accepts the insertions of the example, and then refuses a removal.
-fn takes_row(alloc: Global, layer: &mut Layer) -> Result<bool, Fail> {
-    let inserted = inserts(alloc, layer, ROW)? && finds(layer, "a", 0, point(0, 0)?);
-    Ok(inserted && removes_none(alloc, layer, "q")? && layer.len() == 2)
+fn takes_row(alloc: Global, edited: &mut Edited) -> Result<bool, Fail> {
+    let inserted = inserts(alloc, edited, ROW)? && finds(edited, "a", 0, point(0, 0)?)?;
+    Ok(inserted && removes_none(alloc, edited, "q")? && edited.layer.len() == 2)
 }
 
 #[test]
 fn layer_edits(rt: HostRuntime) -> Result<(), Fail> {
-    assert!(rt; on_empty(&rt, |layer| takes_row(rt.alloc(), layer))?);
+    assert!(rt; on_empty(&rt, |edited| takes_row(rt.alloc(), edited))?);
     Ok(())
 }
 
@@ -116,55 +122,66 @@ fn id_texts(rt: HostRuntime) -> Result<(), Fail> {
 }
 
 /// Whether an empty layer accepts ids of many lengths, finds them, and loses only the removed one.
-fn takes_many_lengths(alloc: Global, layer: &mut Layer) -> Result<bool, Fail> {
+fn takes_many_lengths(alloc: Global, edited: &mut Edited) -> Result<bool, Fail> {
     let (short, longer) = (point(1, 1)?, point(2, 2)?);
-    let inserted = inserts(alloc, layer, OF_MANY_LENGTHS)? && finds(layer, SHORT, 1, short);
-    let removed = finds(layer, LONGER, 2, longer) && removes(layer, LONGER, longer);
-    Ok(inserted && removed && layer.find(LONGER).is_none() && finds(layer, SHORT, 1, short))
+    let inserted = inserts(alloc, edited, OF_MANY_LENGTHS)? && finds(edited, SHORT, 1, short)?;
+    let removed = finds(edited, LONGER, 2, longer)? && removes(edited, LONGER, longer);
+    let is_gone = edited.find(LONGER)?.is_none();
+    Ok(inserted && removed && is_gone && finds(edited, SHORT, 1, short)?)
 }
 
 #[test]
 fn ids_of_many_lengths(rt: HostRuntime) -> Result<(), Fail> {
-    assert!(rt; on_empty(&rt, |layer| takes_many_lengths(rt.alloc(), layer))?);
+    assert!(rt; on_empty(&rt, |edited| takes_many_lengths(rt.alloc(), edited))?);
     Ok(())
 }
 
 /// Whether a layer has none of these ids.
-fn finds_none(layer: &Layer, ids: &[&str]) -> bool {
-    ids.iter().all(|id| layer.find(id).is_none())
+fn finds_none(edited: &mut Edited, ids: &[&str]) -> Result<bool, AllocError> {
+    for id in ids {
+        if edited.find(id)?.is_some() {
+            return Ok(false);
+        }
+    }
+    Ok(true)
 }
 
 /// Whether an empty layer accepts ids in any order, and finds them and no others.
-fn takes_any_order(alloc: Global, layer: &mut Layer) -> Result<bool, Fail> {
-    let listed = inserts(alloc, layer, IN_ANY_ORDER)? && finds(layer, "ab", 3, point(3, 3)?);
-    let others = finds(layer, "a", 4, point(5, 5)?) && finds(layer, "b0", 5, point(6, 6)?);
-    Ok(listed && others && finds_none(layer, ABSENT))
+fn takes_any_order(alloc: Global, edited: &mut Edited) -> Result<bool, Fail> {
+    let listed = inserts(alloc, edited, IN_ANY_ORDER)? && finds(edited, "ab", 3, point(3, 3)?)?;
+    let others = finds(edited, "a", 4, point(5, 5)?)? && finds(edited, "b0", 5, point(6, 6)?)?;
+    Ok(listed && others && finds_none(edited, ABSENT)?)
 }
 
 /// Whether the layer removes an id of each kind, and accepts both again.
-fn takes_any_order_again(alloc: Global, layer: &mut Layer) -> Result<bool, Fail> {
-    let first = takes_any_order(alloc, layer)?;
-    let removed = removes(layer, "aa", point(2, 2)?) && removes(layer, "a", point(5, 5)?);
-    let are_gone = layer.find("aa").is_none() && layer.find("a").is_none();
-    let again = inserts(alloc, layer, ONCE_MORE)? && finds(layer, "aa", 6, point(2, 2)?);
-    Ok(first && removed && are_gone && again && finds(layer, "a", 7, point(5, 5)?))
+fn takes_any_order_again(alloc: Global, edited: &mut Edited) -> Result<bool, Fail> {
+    let first = takes_any_order(alloc, edited)?;
+    let removed = removes(edited, "aa", point(2, 2)?) && removes(edited, "a", point(5, 5)?);
+    let are_gone = finds_none(edited, &["aa", "a"])?;
+    let again = inserts(alloc, edited, ONCE_MORE)? && finds(edited, "aa", 6, point(2, 2)?)?;
+    Ok(first && removed && are_gone && again && finds(edited, "a", 7, point(5, 5)?)?)
 }
 
 #[test]
 fn ids_in_any_order(rt: HostRuntime) -> Result<(), Fail> {
-    assert!(rt; on_empty(&rt, |layer| takes_any_order_again(rt.alloc(), layer))?);
+    assert!(rt; on_empty(&rt, |edited| takes_any_order_again(rt.alloc(), edited))?);
     Ok(())
 }
 
 /// Adds the points (0 0), (1 0), .. under these ids.
-fn add_points(alloc: Global, loading: &mut FeatureList, ids: &[&str]) -> Result<(), Fail> {
+fn add_points(alloc: Global, loading: &mut FeatureListBuilder, ids: &[&str]) -> Result<(), Fail> {
     for (x, id) in (0..).zip(ids) {
         add_point(alloc, loading, id, x)?;
     }
     Ok(())
 }
 
-fn add_point(alloc: Global, loading: &mut FeatureList, id: &str, x: i64) -> Result<(), Fail> {
+fn add_point(
+    alloc: Global,
+    loading: &mut FeatureListBuilder,
+    id: &str,
+    x: i64,
+) -> Result<(), Fail> {
     if !is_id(id) {
         return Err(Fail::new("an id of another length"));
     }
@@ -174,9 +191,9 @@ fn add_point(alloc: Global, loading: &mut FeatureList, id: &str, x: i64) -> Resu
 
 /// The layer of points added one by one.
 fn layer_of_added<R: RandomSource + AllocGlobal>(rt: &R, ids: &[&str]) -> Result<Layer, Fail> {
-    let mut loading = FeatureList::new(rt.alloc(), RandomState::new(rt)?, ids.len())?;
+    let mut loading = FeatureListBuilder::new(rt.alloc(), RandomState::new(rt)?, ids.len())?;
     add_points(rt.alloc(), &mut loading, ids)?;
-    Ok(loading.finish(rt.alloc())?)
+    Ok(loading.finish()?.finish(rt.alloc())?)
 }
 
 /// Whether the layer of three points added one by one has them.
@@ -201,31 +218,34 @@ fn full_layer<R: Threads + Sync + RandomSource + AllocGlobal>(rt: &R) -> Result<
     layer_of(rt, points_file(rt.alloc(), 1_000_000)?.as_bytes())
 }
 
-/// A summary of a layer: its counts, the length of its tree and the feature `new`. A full layer has
-/// too many features to list them after each refusal.
-fn sight(layer: &Layer) -> (Stats, usize, bool) {
-    (
-        layer.stats(),
-        layer.tree().len(),
-        layer.find("new").is_some(),
-    )
-}
-
-/// Whether a full layer refuses a new id.
-fn refuses_new(full: &mut Layer) -> Result<bool, Fail> {
-    let before = sight(full);
+/// Whether an editor of a full layer refuses a new id, and has no feature of it.
+fn refuses_new(full: &mut LayerEditor) -> Result<bool, Fail> {
     let is_refused = full.insert("new", point(0, 0)?) == Err(LayerFault::LayerFull);
-    Ok(is_refused && !before.2 && sight(full) == before)
+    Ok(is_refused && full.find("new").is_none())
 }
 
-/// Whether a full layer refuses a new id, even after a removal.
-fn stays_full(full: &mut Layer) -> Result<bool, Fail> {
-    let is_full = full.len() == 1_000_000 && refuses_new(full)?;
-    Ok(is_full && removes(full, "p7", point(7, 0)?) && refuses_new(full)?)
+/// Whether an editor of a full layer refuses a new id, even after a removal.
+fn stays_full(full: &mut LayerEditor) -> Result<bool, Fail> {
+    let is_removed = refuses_new(full)? && full.remove("p7") == Ok(point(7, 0)?);
+    Ok(is_removed && refuses_new(full)?)
+}
+
+/// Whether a full layer stays full, and then has one feature less.
+fn is_one_less(full: &mut Edited) -> Result<bool, Fail> {
+    let mut editor = full.take()?;
+    let is_full = stays_full(&mut editor)?;
+    full.give(editor)?;
+    let less = Stats {
+        features: 999_999,
+        points: 999_999,
+        ..full.layer.stats()
+    };
+    let is_counted = full.layer.stats() == less && full.layer.tree().len() == 999_999;
+    Ok(is_full && is_counted && full.layer.at(7).is_none())
 }
 
 fn is_full_for_good<R: Threads + Sync + RandomSource + AllocGlobal>(rt: &R) -> Result<bool, Fail> {
-    seen(full_layer(rt)?, stays_full)
+    seen(Edited::of(rt, full_layer(rt)?)?, is_one_less)
 }
 
 /// The last part of the example on edits of a layer.
@@ -236,18 +256,18 @@ fn layer_edits_when_full(rt: HostRuntime) -> Result<(), Fail> {
 }
 
 /// Deletes the feature a of a layer of three points, and inserts it again.
-fn inserts_again(alloc: Global, layer: &mut Layer) -> Result<bool, Fail> {
-    let removed = removes(layer, "a", point(0, 0)?);
-    let is_gone = layer.at(0).is_none() && layer.shape(0).is_none();
-    Ok(removed && is_gone && inserts(alloc, layer, AGAIN)?)
+fn inserts_again(alloc: Global, edited: &mut Edited) -> Result<bool, Fail> {
+    let removed = removes(edited, "a", point(0, 0)?);
+    let is_gone = edited.layer.at(0).is_none() && edited.layer.shape(0).is_none();
+    Ok(removed && is_gone && inserts(alloc, edited, AGAIN)?)
 }
 
 /// Whether an empty layer accepts three points, and then the first of them again after the others.
-fn takes_again(alloc: Global, layer: &mut Layer) -> Result<bool, Fail> {
-    let inserted = layer.is_empty()
-        && inserts(alloc, layer, THREE)?
-        && inserts_again(alloc, layer)?;
-    Ok(inserted && finds(layer, "a", 3, point(9, 9)?) && layer.len() == 3)
+fn takes_again(alloc: Global, edited: &mut Edited) -> Result<bool, Fail> {
+    let inserted = edited.layer.is_empty()
+        && inserts(alloc, edited, THREE)?
+        && inserts_again(alloc, edited)?;
+    Ok(inserted && finds(edited, "a", 3, point(9, 9)?)? && edited.layer.len() == 3)
 }
 
 /// Whether this feature has the id and the number, and the layer finds it and its shape by its
@@ -277,44 +297,61 @@ fn has_listed(layer: &Layer, wanted: &[(&str, u32)]) -> bool {
 }
 
 /// Whether an edited layer, initially empty, lists the expected features.
-fn lists_again(alloc: Global, layer: &mut Layer) -> Result<bool, Fail> {
-    Ok(takes_again(alloc, layer)? && has_listed(layer, LISTED))
+fn lists_again(alloc: Global, edited: &mut Edited) -> Result<bool, Fail> {
+    Ok(takes_again(alloc, edited)? && has_listed(&edited.layer, LISTED))
 }
 
 #[test]
 fn deleted_and_inserted_again(rt: HostRuntime) -> Result<(), Fail> {
-    assert!(rt; on_empty(&rt, |layer| lists_again(rt.alloc(), layer))?);
+    assert!(rt; on_empty(&rt, |edited| lists_again(rt.alloc(), edited))?);
     Ok(())
 }
 
-fn apply_all(edits: Vec<Edit>, left: &mut Layer, right: &mut Layer) -> Result<(), LayerFault> {
+fn apply_all(
+    edits: Vec<Edit>,
+    left: &mut LayerEditor,
+    right: &mut LayerEditor,
+) -> Result<(), LayerFault> {
     for edit in edits {
-        edit.apply(left, right)?;
+        apply_edit(edit, left, right)?;
     }
     Ok(())
 }
 
 /// Whether each edit of the right layer is refused because its id exists.
-fn are_doubles(edits: Vec<Edit>, left: &mut Layer, right: &mut Layer) -> bool {
+fn are_doubles(edits: Vec<Edit>, left: &mut LayerEditor, right: &mut LayerEditor) -> bool {
     for edit in edits {
-        if edit.side() == Side::Right && edit.apply(left, right) != Err(LayerFault::DoubleId) {
+        let is_right = edit.side() == Side::Right;
+        if is_right && apply_edit(edit, left, right) != Err(LayerFault::DoubleId) {
             return false;
         }
     }
     true
 }
 
+/// Applies the edits to both layers.
+fn edits_both(edits: Vec<Edit>, left: &mut Edited, right: &mut Edited) -> Result<(), Fail> {
+    let (mut left_editor, mut right_editor) = (left.take()?, right.take()?);
+    apply_all(edits, &mut left_editor, &mut right_editor)?;
+    left.give(left_editor)?;
+    right.give(right_editor)?;
+    Ok(())
+}
+
 /// Whether each edit of the right layer is refused, and leaves both layers unchanged.
 fn are_doubles_alone(
     alloc: Global,
     edits: Vec<Edit>,
-    left: &mut Layer,
-    right: &mut Layer,
+    left: &mut Edited,
+    right: &mut Edited,
 ) -> Result<bool, Fail> {
-    let before = (state(alloc, left)?, state(alloc, right)?);
-    let are_doubles = are_doubles(edits, left, right);
-    let is_left_same = state(alloc, left)?.as_str() == before.0.as_str();
-    Ok(are_doubles && is_left_same && state(alloc, right)?.as_str() == before.1.as_str())
+    let before = (state(alloc, &left.layer)?, state(alloc, &right.layer)?);
+    let (mut left_editor, mut right_editor) = (left.take()?, right.take()?);
+    let are_doubles = are_doubles(edits, &mut left_editor, &mut right_editor);
+    left.give(left_editor)?;
+    right.give(right_editor)?;
+    let is_left_same = state(alloc, &left.layer)?.as_str() == before.0.as_str();
+    Ok(are_doubles && is_left_same && state(alloc, &right.layer)?.as_str() == before.1.as_str())
 }
 
 /// Applies the edits, and then those of the right layer again.
@@ -322,24 +359,24 @@ fn edits_twice(
     alloc: Global,
     edits: Vec<Edit>,
     again: Vec<Edit>,
-    left: &mut Layer,
-    right: &mut Layer,
+    left: &mut Edited,
+    right: &mut Edited,
 ) -> Result<bool, Fail> {
-    apply_all(edits, left, right)?;
+    edits_both(edits, left, right)?;
     let segment = Shape::new(0, 0, 0, 3).ok_or("a segment")?;
-    let edited = left.is_empty() && finds(right, "b", 0, segment);
-    Ok(edited && are_doubles_alone(alloc, again, left, right)? && right.len() == 1)
+    let edited = left.layer.is_empty() && finds(right, "b", 0, segment)?;
+    Ok(edited && are_doubles_alone(alloc, again, left, right)? && right.layer.len() == 1)
 }
 
 /// Whether a list of edits is read, and has the expected effect on two empty layers.
-fn reads_edits(alloc: Global, left: &mut Layer, right: &mut Layer) -> Result<bool, Fail> {
+fn reads_edits(alloc: Global, left: &mut Edited, right: &mut Edited) -> Result<bool, Fail> {
     let edits = edits_of_bytes(alloc, EDITS, whole()?)?;
     let again = edits_of_bytes(alloc, EDITS, whole()?)?;
     Ok(edits.len() == 3 && edits_twice(alloc, edits, again, left, right)?)
 }
 
 /// Whether edits of a left layer and a new right one are read and applied.
-fn reads_edits_of(rt: &HostRuntime, left: &mut Layer) -> Result<bool, Fail> {
+fn reads_edits_of(rt: &HostRuntime, left: &mut Edited) -> Result<bool, Fail> {
     on_empty(rt, |right| reads_edits(rt.alloc(), left, right))
 }
 

@@ -1,7 +1,9 @@
 //! Counts of features, and the height of the tree.
 
-use layer_core::{FeatureList, Layer, Stats};
-use layer_test_data::{layer_of, point, reader, seen, state, whole};
+use crate::edited::Edited;
+use crate::layers::{point, seen, state};
+use crate::read_layers::{layer_of, reader, whole};
+use layer_core::{FeatureList, Stats};
 use std::alloc::AllocGlobal;
 use std::hash::RandomState;
 use std::random::RandomSource;
@@ -50,14 +52,14 @@ fn stats_from_a(features: &mut FeatureList) -> Result<Option<Stats>, Fail> {
 }
 
 /// The counts of a layer of two features after both are removed.
-fn stats_emptied(layer: &mut Layer) -> Result<Stats, Fail> {
-    layer.remove("a")?;
-    layer.remove("b")?;
-    Ok(layer.stats())
+fn stats_emptied(edited: &mut Edited) -> Result<Stats, Fail> {
+    edited.remove("a")?;
+    edited.remove("b")?;
+    Ok(edited.layer.stats())
 }
 
 fn stats_of_emptied<R: Threads + Sync + RandomSource + AllocGlobal>(rt: &R) -> Result<Stats, Fail> {
-    seen(layer_of(rt, TWO)?, stats_emptied)
+    seen(Edited::of(rt, layer_of(rt, TWO)?)?, stats_emptied)
 }
 
 #[test]

@@ -11,7 +11,7 @@ use geom_core::{LIMIT, Shape, Span};
 ///
 /// A layer holds it by its box, grown on all sides by half of the distance, rounded up. So the
 /// boxes of two shapes that are at most the distance of each apart meet.
-#[derive(Clone, Copy, Debug, PartialEq, Eq)]
+#[derive(Clone, Copy, PartialEq, Eq)]
 pub struct GrownShape {
     pub shape: Shape,
     pub distance: Distance,

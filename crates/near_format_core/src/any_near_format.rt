@@ -6,7 +6,7 @@ use format_core::{AnyFormat, Format, TextFault};
 use std::alloc::{AllocError, Global};
 
 /// Geometries of any kind, as a format reads them, all with one distance.
-#[derive(Clone, Copy, Debug, PartialEq, Eq)]
+#[derive(Clone, Copy, PartialEq, Eq)]
 pub struct AnyNearFormat {
     pub format: AnyFormat,
     pub distance: Distance,

@@ -7,7 +7,7 @@ use std::alloc::{AllocError, Global};
 use wkt_core::Scale;
 
 /// Boxes with coordinates at a scale, all with one distance.
-#[derive(Clone, Copy, Debug, PartialEq, Eq)]
+#[derive(Clone, Copy, PartialEq, Eq)]
 pub struct NearFormat {
     pub scale: Scale,
     pub distance: Distance,

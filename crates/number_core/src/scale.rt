@@ -7,7 +7,7 @@ ghost use Rattle.number_core.specs.ScaleLimits.{most_digits};
 const MOST_DIGITS: u8 = 6;
 
 /// How a number that is no whole number of units is read.
-#[derive(Clone, Copy, Debug, PartialEq, Eq)]
+#[derive(Clone, Copy, PartialEq, Eq)]
 pub enum Rounding {
     /// It is refused.
     Exact,
@@ -19,7 +19,7 @@ pub enum Rounding {
 /// read.
 ///
 /// At scale k a coordinate is a whole number of units of 10^-k.
-#[derive(Clone, Copy, Debug, PartialEq, Eq)]
+#[derive(Clone, Copy, PartialEq, Eq)]
 pub struct Scale {
     digits: u8,
     rounding: Rounding,

@@ -11,7 +11,7 @@ use std::alloc::{AllocError, Global};
 const SEVERAL: u8 = 2;
 
 /// A side of the pairs of a join.
-#[derive(Clone, Copy, Debug, PartialEq, Eq)]
+#[derive(Clone, Copy, PartialEq, Eq)]
 pub enum Side {
     Left,
     Right,

@@ -7,7 +7,7 @@ use crate::limits::{MAX_BATCH, MAX_CUT, MAX_WORKERS};
 use thiserror::Error;
 
 /// The number of workers of a join, the size of its batches and the depth of its tasks.
-#[derive(Clone, Copy, Debug, PartialEq, Eq)]
+#[derive(Clone, Copy, PartialEq, Eq)]
 pub struct Options {
     workers: u32,
     batch: u32,

@@ -1,7 +1,7 @@
 //! The output that is made of the pairs of a join.
 
 /// The output that a join makes of its pairs.
-#[derive(Clone, Copy, Debug, PartialEq, Eq)]
+#[derive(Clone, Copy, PartialEq, Eq)]
 pub enum Product {
     /// A CSV record for each pair, in layer order, with the letters of its matrix.
     Report,

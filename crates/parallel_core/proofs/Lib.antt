@@ -1,4 +1,5 @@
 pub mod Endings
+pub mod OfferLemmas
 pub mod Receivers
 pub mod Ownership
 pub mod PlanOrder

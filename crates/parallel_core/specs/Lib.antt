@@ -3,6 +3,7 @@ pub mod Faults
 pub mod Receivers
 pub mod FusedCollectors
 pub mod Jobs
+pub mod Offers
 pub mod Sending
 pub mod Teams
 pub mod Workers

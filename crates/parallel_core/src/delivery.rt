@@ -1,11 +1,12 @@
 //! The workers of a join, which process the tasks of a plan in parallel.
 
-ghost use Rattle.std.specs.Prelude.{◌≡◌, true, false, IfErr, IfOk};
+ghost use Rattle.std.specs.Prelude.{◌≡◌, ◌<◌, true, false, IfErr, IfOk};
 ghost use Rattle.relation_core.specs.JoinRelations.{relation_of};
 ghost use Rattle.options_core.specs.Options.{batch_of};
 ghost use Rattle.parallel_core.specs.Deliveries.{IsDelivered};
 ghost use Rattle.parallel_core.specs.Faults.{IsWant};
 
+use crate::alone::offer_all;
 use crate::fault::JoinFault;
 use crate::job::Job;
 use crate::receiver::Receiver;
@@ -17,12 +18,47 @@ use relation_core::JoinRelation;
 use std::sync::Wait;
 use std::thread::Threads;
 
-/// Processes the tasks of a plan by as many workers as the options say, each in a thread of its
-/// own, and returns what they delivered, in batches of the options' size.
+/// Processes the tasks of a plan by as many workers as the options say, and returns what they
+/// delivered, in batches of the options' size. A single worker works on the caller's thread, and
+/// each of several in a thread of its own.
 ///
 /// # Errors
 /// `Memory` if an allocation fails, `NoThread` if a worker's thread can't be started, and no other.
 pub fn run_workers<R: AllocGlobal + Threads + Wait + Sync, P: Rows + Sync>(
+    rt: &R,
+    rows: &P,
+    relation: &JoinRelation,
+    options: &Options,
+) -> Result<Outcome, JoinFault>
+    ensures ok { let size = batch_of options.now in
+        IfOk result (IsDelivered (relation_of relation.now) (P.tasks rows.now) size) }
+    ensures err { IfErr result IsWant }
+{
+    if options.workers() == 1 {
+        run_alone(rt, rows, relation, options.batch())
+    } else {
+        run_team(rt, rows, relation, options)
+    }
+}
+
+/// The same by the caller's thread alone.
+fn run_alone<R: AllocGlobal + Threads + Sync, P: Rows>(
+    rt: &R,
+    rows: &P,
+    relation: &JoinRelation,
+    batch: u32,
+) -> Result<Outcome, JoinFault>
+    requires batch { 0 < batch }
+    ensures ok { IfOk result (IsDelivered (relation_of relation.now) (P.tasks rows.now) batch) }
+    ensures err { IfErr result IsWant }
+{
+    let fused = offer_all(rt.alloc(), rows, relation, batch)?;
+    owners_law();
+    fused.finish(rt, 1, true)
+}
+
+/// The same by workers that each have a thread of their own.
+fn run_team<R: AllocGlobal + Threads + Wait + Sync, P: Rows + Sync>(
     rt: &R,
     rows: &P,
     relation: &JoinRelation,

@@ -1,7 +1,8 @@
 //! The workers of a join: each draws tasks from the board and sends their scripts through its port,
-//! and the thread that started them receives the messages.
+//! and the thread that started them receives the messages. A single worker is the caller's thread.
 #![tactic(auto)]
 
+mod alone;
 mod delivery;
 mod fault;
 mod fused_collector;

@@ -10,7 +10,7 @@ use crate::cross::cross;
 use crate::vertex::Vertex;
 
 /// The segment from `a` to `b`.
-#[derive(Clone, Copy, Debug, PartialEq, Eq)]
+#[derive(Clone, Copy, PartialEq, Eq)]
 pub struct Edge {
     pub a: Vertex,
     pub b: Vertex,

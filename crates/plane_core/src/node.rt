@@ -14,7 +14,7 @@ use std::cmp::Ordering;
 use wide_core::compare_products;
 
 /// A vertex, or the intersection of two edges that aren't parallel.
-#[derive(Clone, Copy, Debug)]
+#[derive(Clone, Copy)]
 pub struct Node {
     pub place: Place,
     ghost narrow: { nat_abs place.w ≤ greatest_turn },

@@ -16,7 +16,7 @@ use crate::spot::Spot;
 use crate::vertex::Vertex;
 
 /// The kind of a geometry, by its dimension.
-#[derive(Clone, Copy, Debug, PartialEq, Eq)]
+#[derive(Clone, Copy, PartialEq, Eq)]
 pub enum Kind {
     /// Single points.
     Points,
@@ -36,14 +36,14 @@ pub struct Outline {
 
 /// The part of a geometry in which a point lies, and the part in which the points just above it
 /// lie.
-#[derive(Clone, Copy, Debug, PartialEq, Eq)]
+#[derive(Clone, Copy, PartialEq, Eq)]
 pub struct Standing {
     pub part: Part,
     pub above: Part,
 }
 
 /// How a set of edges lies to a point.
-#[derive(Clone, Copy, Debug, PartialEq, Eq)]
+#[derive(Clone, Copy, PartialEq, Eq)]
 pub struct Scan {
     /// The point is on one of the edges.
     pub is_on: bool,

@@ -10,7 +10,7 @@ use std::cmp::Ordering;
 use wide_core::compare_products;
 
 /// The point `(x / w, y / w)`, within the range of vertices.
-#[derive(Clone, Copy, Debug)]
+#[derive(Clone, Copy)]
 pub struct Place {
     pub x: i128,
     pub y: i128,
@@ -22,7 +22,7 @@ pub struct Place {
 }
 
 /// How an edge lies to a point.
-#[derive(Clone, Copy, Debug, PartialEq, Eq)]
+#[derive(Clone, Copy, PartialEq, Eq)]
 pub struct Lie {
     /// The point is on the edge.
     pub is_on: bool,

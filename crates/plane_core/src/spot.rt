@@ -13,7 +13,7 @@ use geom_core::{LIMIT, Shape};
 /// A point with the greatest integers that aren't above its coordinates, and the least that aren't
 /// below. A vertex lies to the point as it lies to these, so that no product is computed; an edge
 /// is compared with the point by products only if the point is within its box.
-#[derive(Clone, Copy, Debug)]
+#[derive(Clone, Copy)]
 pub struct Spot {
     pub place: Place,
     left: i64,

@@ -5,7 +5,7 @@ ghost use Rattle.geom_core.specs.Limits.{IsCoordinate};
 use geom_core::LIMIT;
 
 /// A point whose coordinates are integers from `-LIMIT` to `LIMIT` of `geom_core`.
-#[derive(Clone, Copy, Debug, PartialEq, Eq)]
+#[derive(Clone, Copy, PartialEq, Eq)]
 pub struct Vertex {
     pub x: i64,
     pub y: i64,

@@ -10,7 +10,7 @@ use wkt_any_core::Rings;
 
 /// Which of two geometries have improper rings: rings read by the even-odd rule that cross or run
 /// along each other or themselves, as a flat ring does.
-#[derive(Clone, Copy, Debug, PartialEq, Eq)]
+#[derive(Clone, Copy, PartialEq, Eq)]
 pub struct Improper {
     pub first: bool,
     pub second: bool,

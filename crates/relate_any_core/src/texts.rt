@@ -12,7 +12,7 @@ use wkt_any_core::{GeometryFault, Rings, read};
 use wkt_core::Scale;
 
 /// The matrix of two geometries, and which of them have improper rings.
-#[derive(Clone, Copy, Debug, PartialEq, Eq)]
+#[derive(Clone, Copy, PartialEq, Eq)]
 pub struct Related {
     pub matrix: Matrix,
     pub improper: Improper,

@@ -1,7 +1,7 @@
 //! The dimension of the intersection of two parts of the plane: an entry of a matrix.
 
 /// The greatest dimension of the intersection of two parts.
-#[derive(Clone, Copy, Debug, PartialEq, Eq)]
+#[derive(Clone, Copy, PartialEq, Eq)]
 pub enum Extent {
     /// The intersection is empty.
     Empty,

@@ -10,7 +10,7 @@ use geom_core::Shape;
 use thiserror::Error;
 
 /// A relation that holds for no two disjoint shapes.
-#[derive(Clone, Copy, Debug, PartialEq, Eq)]
+#[derive(Clone, Copy, PartialEq, Eq)]
 pub struct JoinRelation {
     relation: Relation,
     ghost forbids_disjoint: { ForbidsDisjoint relation },

@@ -7,7 +7,7 @@ use crate::pattern_value::PatternValue;
 use thiserror::Error;
 
 /// A pattern of matrices (a pattern matrix, OGC 06-103r4, 6.1.15.2).
-#[derive(Clone, Copy, Debug, PartialEq, Eq)]
+#[derive(Clone, Copy, PartialEq, Eq)]
 pub struct Mask {
     pub rows: Parts<Parts<PatternValue>>,
 }

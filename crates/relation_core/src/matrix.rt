@@ -5,7 +5,7 @@ use crate::part::Parts;
 
 /// The dimension of the intersection of each part of one geometry with each part of another (OGC
 /// 06-103r4, 6.1.15.2).
-#[derive(Clone, Copy, Debug, PartialEq, Eq)]
+#[derive(Clone, Copy, PartialEq, Eq)]
 pub struct Matrix {
     pub rows: Parts<Parts<Extent>>,
 }

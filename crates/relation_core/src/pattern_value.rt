@@ -3,7 +3,7 @@
 use crate::extent::Extent;
 
 /// The condition of a mask on one entry (a pattern value, OGC 06-103r4, 6.1.15.2).
-#[derive(Clone, Copy, Debug, PartialEq, Eq)]
+#[derive(Clone, Copy, PartialEq, Eq)]
 pub enum PatternValue {
     /// `*`: anything.
     Any,

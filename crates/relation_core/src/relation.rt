@@ -6,9 +6,9 @@ use crate::matrix::Matrix;
 use crate::part::Parts;
 use crate::pattern_value::PatternValue;
 use crate::relate;
-use arrayvec::ArrayVec;
 use geom_core::Shape;
 use std::cmp::Ordering;
+use std::slice;
 
 /// The letter `T` of the masks below.
 const T: PatternValue = PatternValue::NotEmpty;
@@ -25,9 +25,89 @@ const ONE: PatternValue = PatternValue::Exactly(Extent::Line);
 /// The letter `*`.
 const ANY: PatternValue = PatternValue::Any;
 
+/// A mask by its letters, row by row.
+macro_rules! mask {
+    ($ii:ident $ib:ident $ie:ident, $bi:ident $bb:ident $be:ident, $ei:ident $eb:ident $ee:ident) => {
+        Mask {
+            rows: Parts {
+                interior: Parts {
+                    interior: $ii,
+                    boundary: $ib,
+                    exterior: $ie,
+                },
+                boundary: Parts {
+                    interior: $bi,
+                    boundary: $bb,
+                    exterior: $be,
+                },
+                exterior: Parts {
+                    interior: $ei,
+                    boundary: $eb,
+                    exterior: $ee,
+                },
+            },
+        }
+    };
+}
+
+static DISJOINT: [Mask; 1] = [mask!(F F ANY, F F ANY, ANY ANY ANY)];
+
+static INTERSECTS: [Mask; 4] = [
+    mask!(T ANY ANY, ANY ANY ANY, ANY ANY ANY),
+    mask!(ANY T ANY, ANY ANY ANY, ANY ANY ANY),
+    mask!(ANY ANY ANY, T ANY ANY, ANY ANY ANY),
+    mask!(ANY ANY ANY, ANY T ANY, ANY ANY ANY),
+];
+
+/// Those of `Touches` for shapes that aren't both points.
+static TOUCHES: [Mask; 3] = [
+    mask!(F T ANY, ANY ANY ANY, ANY ANY ANY),
+    mask!(F ANY ANY, T ANY ANY, ANY ANY ANY),
+    mask!(F ANY ANY, ANY T ANY, ANY ANY ANY),
+];
+
+/// That of `Crosses` where the second shape has the higher dimension.
+static CROSSES_HIGHER: [Mask; 1] = [mask!(T ANY T, ANY ANY ANY, ANY ANY ANY)];
+
+/// That of `Crosses` where the second shape has the lower dimension.
+static CROSSES_LOWER: [Mask; 1] = [mask!(T ANY ANY, ANY ANY ANY, T ANY ANY)];
+
+/// That of `Crosses` for two lines.
+static CROSSES_LINE: [Mask; 1] = [mask!(ZERO ANY ANY, ANY ANY ANY, ANY ANY ANY)];
+
+static WITHIN: [Mask; 1] = [mask!(T ANY F, ANY ANY F, ANY ANY ANY)];
+
+static CONTAINS: [Mask; 1] = [mask!(T ANY ANY, ANY ANY ANY, F F ANY)];
+
+/// That of `Overlaps` for two points or two areas.
+static OVERLAPS: [Mask; 1] = [mask!(T ANY T, ANY ANY ANY, T ANY ANY)];
+
+/// That of `Overlaps` for two lines.
+static OVERLAPS_ALONG: [Mask; 1] = [mask!(ONE ANY T, ANY ANY ANY, T ANY ANY)];
+
+static EQUALS: [Mask; 1] = [mask!(T ANY F, ANY ANY F, F F ANY)];
+
+/// No point of the second is outside the first, and both share a point.
+static COVERS: [Mask; 4] = [
+    mask!(T ANY ANY, ANY ANY ANY, F F ANY),
+    mask!(ANY T ANY, ANY ANY ANY, F F ANY),
+    mask!(ANY ANY ANY, T ANY ANY, F F ANY),
+    mask!(ANY ANY ANY, ANY T ANY, F F ANY),
+];
+
+/// No point of the first is outside the second, and both share a point.
+static COVERED_BY: [Mask; 4] = [
+    mask!(T ANY F, ANY ANY F, ANY ANY ANY),
+    mask!(ANY T F, ANY ANY F, ANY ANY ANY),
+    mask!(ANY ANY F, T ANY F, ANY ANY ANY),
+    mask!(ANY ANY F, ANY T F, ANY ANY ANY),
+];
+
+static CONTAINS_PROPERLY: [Mask; 1] = [mask!(T ANY ANY, F F ANY, F F ANY)];
+
 /// A relation of two shapes: a mask, or a named predicate of OGC 06-103r4, 6.1.15.3, or of JTS
 /// (`IntersectionMatrix` and `RelatePredicate`; the last three).
-#[derive(Clone, Copy, Debug, PartialEq, Eq)]
+#[derive(Clone, Copy, PartialEq, Eq)]
 pub enum Relation {
     /// The mask fits.
     Mask(Mask),
@@ -85,41 +165,27 @@ impl Relation {
 
     /// The masks for shapes of these two dimensions, of which at least one must fit, in order.
     /// Without masks, the relation doesn't hold.
-    pub fn masks(&self, first_dim: u8, second_dim: u8) -> ArrayVec<Mask, 4>
+    pub fn masks(&self, first_dim: u8, second_dim: u8) -> &[Mask]
         requires first { first_dim ≤ 2 }
         requires second { second_dim ≤ 2 }
-        ensures { result.items ≡ masks self.now first_dim second_dim }
+        ensures { result.now ≡ masks self.now first_dim second_dim }
     {
-        let anything = row(ANY, ANY, ANY);
         match self {
-            Relation::Mask(mask) => list(&[*mask]),
-            Relation::Disjoint => list(&[mask(row(F, F, ANY), row(F, F, ANY), anything)]),
-            Relation::Intersects => list(&[
-                mask(row(T, ANY, ANY), anything, anything),
-                mask(row(ANY, T, ANY), anything, anything),
-                mask(anything, row(T, ANY, ANY), anything),
-                mask(anything, row(ANY, T, ANY), anything),
-            ]),
-            Relation::Touches if first_dim == 0 && second_dim == 0 => ArrayVec::new(),
-            Relation::Touches => list(&[
-                mask(row(F, T, ANY), anything, anything),
-                mask(row(F, ANY, ANY), row(T, ANY, ANY), anything),
-                mask(row(F, ANY, ANY), row(ANY, T, ANY), anything),
-            ]),
+            Relation::Mask(mask) => slice::from_ref(mask),
+            Relation::Disjoint => &DISJOINT,
+            Relation::Intersects => &INTERSECTS,
+            Relation::Touches if first_dim == 0 && second_dim == 0 => &[],
+            Relation::Touches => &TOUCHES,
             Relation::Crosses => crosses_masks(first_dim, second_dim),
-            Relation::Within => list(&[mask(row(T, ANY, F), row(ANY, ANY, F), anything)]),
-            Relation::Contains => list(&[mask(row(T, ANY, ANY), anything, row(F, F, ANY))]),
-            Relation::Overlaps if first_dim != second_dim => ArrayVec::new(),
-            Relation::Overlaps if first_dim == 1 => {
-                list(&[mask(row(ONE, ANY, T), anything, row(T, ANY, ANY))])
-            }
-            Relation::Overlaps => list(&[mask(row(T, ANY, T), anything, row(T, ANY, ANY))]),
-            Relation::Equals => list(&[mask(row(T, ANY, F), row(ANY, ANY, F), row(F, F, ANY))]),
-            Relation::Covers => covers_masks(),
-            Relation::CoveredBy => covered_by_masks(),
-            Relation::ContainsProperly => {
-                list(&[mask(row(T, ANY, ANY), row(F, F, ANY), row(F, F, ANY))])
-            }
+            Relation::Within => &WITHIN,
+            Relation::Contains => &CONTAINS,
+            Relation::Overlaps if first_dim != second_dim => &[],
+            Relation::Overlaps if first_dim == 1 => &OVERLAPS_ALONG,
+            Relation::Overlaps => &OVERLAPS,
+            Relation::Equals => &EQUALS,
+            Relation::Covers => &COVERS,
+            Relation::CoveredBy => &COVERED_BY,
+            Relation::ContainsProperly => &CONTAINS_PROPERLY,
         }
     }
 
@@ -130,7 +196,7 @@ impl Relation {
         ensures { IsTrue result ↔ FitsOne (masks self.now first_dim second_dim) matrix.now }
     {
         let masks = self.masks(first_dim, second_dim);
-        one_fits(masks.as_slice(), matrix)
+        one_fits(masks, matrix)
     }
 
     /// Whether one of the masks for the two dimensions fits the matrix of the two shapes. Most
@@ -158,9 +224,7 @@ impl Relation {
 }
 
 ghost use Rattle.std.specs.Prelude.{◌≡◌, ◌≤◌, ◌↔◌, length, IfSome, IfNone, IsTrue};
-ghost use Rattle.relation_core.specs.Masks.{row};
-ghost use Rattle.relation_core.specs.Relations.{FitsOne, IsNamed, Spells, covered_by_masks};
-ghost use Rattle.relation_core.specs.Relations.{covers_masks, mask, masks};
+ghost use Rattle.relation_core.specs.Relations.{FitsOne, IsNamed, Spells, masks};
 
 /// The relation with this name, in any ASCII case.
 fn named(text: &[u8]) -> Option<Relation>
@@ -196,42 +260,15 @@ fn named(text: &[u8]) -> Option<Relation>
 }
 
 /// The masks of `Crosses`.
-fn crosses_masks(first_dim: u8, second_dim: u8) -> ArrayVec<Mask, 4>
-    ensures { result.items ≡ masks Relation.Crosses first_dim second_dim }
+fn crosses_masks(first_dim: u8, second_dim: u8) -> &'static [Mask]
+    ensures { result.now ≡ masks Relation.Crosses first_dim second_dim }
 {
-    let anything = row(ANY, ANY, ANY);
     match first_dim.cmp(&second_dim) {
-        Ordering::Less => list(&[mask(row(T, ANY, T), anything, anything)]),
-        Ordering::Greater => list(&[mask(row(T, ANY, ANY), anything, row(T, ANY, ANY))]),
-        Ordering::Equal if first_dim == 1 => list(&[mask(row(ZERO, ANY, ANY), anything, anything)]),
-        Ordering::Equal => ArrayVec::new(),
+        Ordering::Less => &CROSSES_HIGHER,
+        Ordering::Greater => &CROSSES_LOWER,
+        Ordering::Equal if first_dim == 1 => &CROSSES_LINE,
+        Ordering::Equal => &[],
     }
-}
-
-/// The masks of `Covers`: no point of the second is outside the first, and both share a point.
-fn covers_masks() -> ArrayVec<Mask, 4>
-    ensures { result.items ≡ covers_masks }
-{
-    let (anything, none_outside) = (row(ANY, ANY, ANY), row(F, F, ANY));
-    list(&[
-        mask(row(T, ANY, ANY), anything, none_outside),
-        mask(row(ANY, T, ANY), anything, none_outside),
-        mask(anything, row(T, ANY, ANY), none_outside),
-        mask(anything, row(ANY, T, ANY), none_outside),
-    ])
-}
-
-/// The masks of `CoveredBy`: no point of the first is outside the second, and both share a point.
-fn covered_by_masks() -> ArrayVec<Mask, 4>
-    ensures { result.items ≡ covered_by_masks }
-{
-    let (anything, none_outside) = (row(ANY, ANY, ANY), row(ANY, ANY, F));
-    list(&[
-        mask(row(T, ANY, F), none_outside, anything),
-        mask(row(ANY, T, F), none_outside, anything),
-        mask(none_outside, row(T, ANY, F), anything),
-        mask(none_outside, row(ANY, T, F), anything),
-    ])
 }
 
 /// Whether a mask of `Crosses` fits.
@@ -274,46 +311,4 @@ fn one_fits(masks: &[Mask], matrix: &Matrix) -> bool
     ensures { IsTrue result ↔ FitsOne masks.now matrix.now }
 {
     masks.iter().any(|mask| mask.fits(matrix))
-}
-
-/// The conditions of a mask on one part of the first shape with each part of the second.
-fn row(
-    interior: PatternValue,
-    boundary: PatternValue,
-    exterior: PatternValue,
-) -> Parts<PatternValue>
-    ensures { result ≡ row interior boundary exterior }
-{
-    Parts {
-        interior,
-        boundary,
-        exterior,
-    }
-}
-
-/// The mask with three rows.
-fn mask(
-    interior: Parts<PatternValue>,
-    boundary: Parts<PatternValue>,
-    exterior: Parts<PatternValue>,
-) -> Mask
-    ensures { result ≡ mask interior boundary exterior }
-{
-    Mask {
-        rows: Parts {
-            interior,
-            boundary,
-            exterior,
-        },
-    }
-}
-
-/// At most four masks as a list.
-fn list(masks: &[Mask]) -> ArrayVec<Mask, 4>
-    requires { length masks.now ≤ 4 }
-    ensures { result.items ≡ masks.now }
-{
-    let mut list = ArrayVec::new();
-    list.try_extend_from_slice(masks).unwrap();
-    list
 }

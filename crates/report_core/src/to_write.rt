@@ -6,7 +6,7 @@ use crate::sink::{Sink, WriteFailed};
 use std::io::{ErrorKind, Write};
 
 /// The state in which a writer's last call left it.
-#[derive(Clone, Copy, Debug, PartialEq, Eq)]
+#[derive(Clone, Copy, PartialEq, Eq)]
 enum State {
     /// Text was written since the last flush, or nothing was flushed yet.
     Open,

@@ -1,19 +1,18 @@
 -- The edits of two layers, and the faults of a run over them.
-use Rattle.std.proofs.Common.{◌≡◌, ℕ, List, Option, Result, Ok, Err, IsErrAnd, IfErr, OnOk}
+use Rattle.std.proofs.Common.{◌≡◌, ℕ, List, Option, Result, Ok, Err, IsErrAnd, IfOk, IfErr}
 use Rattle.std.proofs.Common.{refl, sym, subst, ◌∙◌, map}
 use Rattle.std.specs.Prelude.{⊤}
 use Rattle.layer_core.specs.declared.edit.Edit.{Edit as EditType}
-use Rattle.layer_core.specs.declared.fault.LayerFault.{LayerFault}
 use Rattle.format_core.specs.Formats.{Reading}
 use Rattle.row_core.specs.declared.read_fault.ReadFault.{ReadFault}
-use Rattle.layer_core.specs.Edits.{Layers, both, content_of, edits_give}
+use Rattle.layer_core.specs.Edits.{EditContent, Layers, both, content_of, edits_give}
 use Rattle.layer_core.specs.Layers.{Contents}
 use Rattle.run_core.specs.declared.fault.Input.TheVariants.{Left, Right, Edits}
 use Rattle.run_core.specs.declared.fault.RunFault.{RunFault}
 use Rattle.run_core.specs.declared.fault.RunFault.TheVariants.{NoFile, Read, Wkt, Geometry, Edit, Join, TooManyToDraw, Write, NotStored, Memory, NoKeys}
 use Rattle.run_core.specs.Inputs.{BlamesBytes, BlamesInput}
 use Rattle.run_core.specs.EditedLayers.{JoinFiles, EditFile, LeftGives, RightGives, LayersGive, edits_fault, edit_refused, edited, IsLateFault}
-use Rattle.run_core.specs.EditedLayers.{IsJoinFault, AreEdited, IsEditsFault, unread, ended, EndsAt}
+use Rattle.run_core.specs.EditedLayers.{IsJoinFault, AreEdited, IsEditFault, ended, no_left, no_right, no_end, IsEditsFault, unread, unmade}
 
 -- the error that `?` returns for a fault that is one of the run's
 pub handed_on : {T V : Type 0} (J : Result V RunFault → Type 0) (out : Result T RunFault) (e is : RunFault) → IsErrAnd out (λ x. x ≡ e) → e ≡ is
@@ -27,18 +26,24 @@ handed_on J (Err x) e is h same gives =
 
 -- a fault of the edits, if both layers are valid
 module _ {G : Type 0} (files : JoinFiles G) (l r : Contents G) (left : LeftGives files (Ok l)) (right : RightGives files (Ok r)) where
+  made_fault : (edits : List (EditContent G)) → EditFile files.reads files.edits (Ok edits) → (e : RunFault) → IsEditFault (both l r) edits e → BlamesInput e
+      → LayersGive files (Err e)
+  made_fault edits file e (ended row f ends) blame = edit_refused l r edits row f left right file (ends.refused blame)
+  made_fault edits file e no_left blame = absurd blame
+  made_fault edits file e no_right blame = absurd blame
+  made_fault edits file e (no_end made given) blame = absurd blame
+
   edits_give_fault : (e : RunFault) → IsEditsFault files.reads files.edits (both l r) e → BlamesInput e → LayersGive files (Err e)
   edits_give_fault e (unread f blames) blame = edits_fault l r f left right (blames blame)
-  edits_give_fault e (ended edits row f file ends) blame = edit_refused l r edits row f left right file (ends.refused blame)
+  edits_give_fault e (unmade edits is file fault) blame = made_fault edits file is fault blame
 
   pub edits_blamed : {T : Type 0} (out : Result T RunFault) (e : RunFault) → IsErrAnd out (λ x. x ≡ e)
       → IsEditsFault files.reads files.edits (both l r) e → IfErr out (λ x. BlamesInput x → LayersGive files (Err x))
   edits_blamed out e h fault = handed_on (LayersGive files) out e e h refl (edits_give_fault e fault)
 
-  -- the edits are applied up to the one at which memory runs out
-  edits_join : (e : RunFault) → IsEditsFault files.reads files.edits (both l r) e → IsJoinFault files e
-  edits_join e (unread f blames) = ((l, left), (r, right))
-  edits_join e (ended edits row f file ends) = λ is. record {
+  -- the edits are applied up to the one at which memory runs out, if any is
+  made_join : (edits : List (EditContent G)) → EditFile files.reads files.edits (Ok edits) → (e : RunFault) → IsEditFault (both l r) edits e → IsJoinFault files e
+  made_join edits file e (ended row f ends) = λ is. record {
     left = l;
     right = r;
     edits = edits;
@@ -47,6 +52,13 @@ module _ {G : Type 0} (files : JoinFiles G) (l r : Contents G) (left : LeftGives
     edits_read = file;
     are_made = ends.want is;
   }
+  made_join edits file e no_left = tt
+  made_join edits file e no_right = λ _. (l, left)
+  made_join edits file e (no_end made given) = (tt, (made, edited l r edits made left right file given))
+
+  edits_join : (e : RunFault) → IsEditsFault files.reads files.edits (both l r) e → IsJoinFault files e
+  edits_join e (unread f blames) = ((l, left), (r, right))
+  edits_join e (unmade edits is file fault) = made_join edits file is fault
 
   pub edits_join_fault : {T : Type 0} (out : Result T RunFault) (e : RunFault) → IsErrAnd out (λ x. x ≡ e)
       → IsEditsFault files.reads files.edits (both l r) e → IfErr out (IsJoinFault files)
@@ -62,21 +74,19 @@ module _ {G : Type 0} (format : Reading G) (file : Option (Option (List ℕ))) (
   edits_handed_on (Ok x) e f h is blames = absurd h
   edits_handed_on (Err x) e f h is blames = subst (IsEditsFault format file layers) (sym (h ∙ is)) (unread f blames)
 
-  pub edits_made : {T : Type 0} (out : Result T RunFault) (list items : List (EditType G)) (after : Layers G) → list ≡ items
-      → EditFile format file (Ok (map content_of items)) → OnOk out (edits_give 1 layers (map content_of list) ≡ Ok after)
-      → OnOk out (AreEdited format file layers after)
-  edits_made (Err x) list items after same read made = tt
-  edits_made (Ok x) list items after same read made =
-      (map content_of items, read, subst (λ (es : List (EditType G)). edits_give 1 layers (map content_of es) ≡ Ok after) same made)
-
-  pub edits_ended : {T : Type 0} (out : Result T RunFault) (list items : List (EditType G)) → list ≡ items
+  pub edits_made : {T : Type 0} (out : Result T RunFault) (first second : T → Contents G) (list items : List (EditType G)) → list ≡ items
       → EditFile format file (Ok (map content_of items))
-      → IfErr out (λ e. (row : ℕ) × (f : LayerFault) × (e ≡ Edit row f) × EndsAt row f layers (map content_of list))
-      → IfErr out (IsEditsFault format file layers)
-  edits_ended (Ok x) list items same read err = tt
-  edits_ended (Err x) list items same read err =
-      subst (IsEditsFault format file layers) (sym err.2)
-      (ended (map content_of items) err.0 err.1 read (subst (λ (es : List (EditType G)). EndsAt err.0 err.1 layers (map content_of es)) same err.3))
+      → IfOk out (λ x. edits_give 1 layers (map content_of list) ≡ Ok (both (first x) (second x)))
+      → IfOk out (λ x. AreEdited format file layers (both (first x) (second x)))
+  edits_made (Err x) first second list items same read made = tt
+  edits_made (Ok x) first second list items same read made =
+      (map content_of items, read, subst (λ (es : List (EditType G)). edits_give 1 layers (map content_of es) ≡ Ok (both (first x) (second x))) same made)
+
+  pub edits_unmade : {T : Type 0} (out : Result T RunFault) (list items : List (EditType G)) → list ≡ items
+      → EditFile format file (Ok (map content_of items)) → IfErr out (IsEditFault layers (map content_of list)) → IfErr out (IsEditsFault format file layers)
+  edits_unmade (Ok x) list items same read err = tt
+  edits_unmade (Err x) list items same read err =
+      unmade (map content_of items) x read (subst (λ (es : List (EditType G)). IsEditFault layers (map content_of es) x) same err)
 
 -- a late fault blames no input, and is no fault of a source
 pub none_blamed : (e : RunFault) → IsLateFault e → BlamesInput e → ⊥

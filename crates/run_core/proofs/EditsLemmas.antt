@@ -1,16 +1,18 @@
 -- Edits that are applied in order, up to the first at which they end.
 use Rattle.std.proofs.Common.{◌≡◌, ◌+◌, ◌<◌, ℕ, Bool, true, false, Option, Some, None, Result, Ok, Err, List, [], ◌∷◌, ◌++◌, length, take, map}
-use Rattle.std.proofs.Common.{refl, sym, ap, subst, ◌∙◌, arith, if◌then◌else◌, not, is_some, nat_le, append_assoc}
+use Rattle.std.proofs.Common.{IsErrAnd, IfErr, refl, sym, ap, subst, ◌∙◌, arith, if◌then◌else◌, not, is_some, nat_le, append_assoc}
 use Rattle.std.proofs.lemmas.List.{append-nil, length-append, length-map, map-append, take_at}
 use Rattle.layer_core.specs.declared.edit.Edit.{Edit}
 use Rattle.layer_core.specs.declared.fault.LayerFault.{LayerFault}
 use Rattle.layer_core.specs.declared.fault.LayerFault.TheVariants.{BadId, DoubleId, LayerFull, NoSuchId, Memory}
-use Rattle.layer_core.specs.Edits.{EditContent, Layers, content_of, change_refusal, edit_refusal, edited_layers, edits_give, layer_on, unless_refused}
+use Rattle.layer_core.specs.Edits.{EditContent, Layers, both, content_of, change_refusal, edit_refusal, edited_layers, edits_give, layer_on, unless_refused}
 use Rattle.layer_core.specs.Layers.{Contents, with_id}
 use Rattle.layer_core.specs.Limits.{most_features}
 use Rattle.layer_core.specs.Refusals.{AnswersWith, is_id}
 use Rattle.run_core.specs.Inputs.{BlamesEdit}
-use Rattle.run_core.specs.EditedLayers.{AreMade, EndsAt}
+use Rattle.run_core.specs.declared.fault.RunFault.{RunFault}
+use Rattle.run_core.specs.declared.fault.RunFault.TheVariants.{Edit as EditFault, Memory as NoMemory}
+use Rattle.run_core.specs.EditedLayers.{AreMade, EndsAt, IsEditFault, ended, no_end}
 
 -- the result of edits that follow others
 gives_append : {G : Type 0} (row : ℕ) (layers made : Layers G) (xs ys : List (EditContent G)) → edits_give row layers xs ≡ Ok made
@@ -140,3 +142,27 @@ pub all_done : {G : Type 0} (row : ℕ) (start now : Layers G) (edits left : Lis
     → edits_give 1 start (map content_of edits) ≡ Ok now
 all_done row start now edits left done none =
     ap (λ l. edits_give 1 start (map content_of l)) (done.split ∙ ap (λ l. done.before ++ l) none ∙ append-nil done.before) ∙ done.made
+
+module _ {T G : Type 0} (out : Result T RunFault) (layers : Layers G) (edits : List (EditContent G)) (e : RunFault) (handed : IsErrAnd out (λ x. x ≡ e)) where
+  -- the error that `?` returns, of a fault of the edits
+  fault_handed : IsEditFault layers edits e → IfErr out (IsEditFault layers edits)
+  fault_handed fault = elim out as (λ r. IsErrAnd r (λ x. x ≡ e) → IfErr r (IsEditFault layers edits)) [
+    | Ok x ↦ λ h. absurd h
+    | Err x ↦ λ h. subst (IsEditFault layers edits) (sym h) fault
+  ] handed
+
+  pub fault_is : (is : RunFault) → e ≡ is → IsEditFault layers edits is → IfErr out (IsEditFault layers edits)
+  fault_is is same fault = fault_handed (subst (IsEditFault layers edits) (sym same) fault)
+
+  pub fault_ended : (lists : Layers G) → lists ≡ layers → (row : ℕ) × (f : LayerFault) × (e ≡ EditFault row f) × EndsAt row f lists edits
+      → IfErr out (IsEditFault layers edits)
+  fault_ended lists same ends =
+      let at_row = subst (λ (l : Layers G). EndsAt ends.0 ends.1 l edits) same ends.3 in
+      fault_handed (subst (IsEditFault layers edits) (sym ends.2) (ended ends.0 ends.1 at_row))
+
+  pub fault_at_end : (lists made : Layers G) → lists ≡ layers → edits_give 1 lists edits ≡ Ok made → e ≡ NoMemory → IfErr out (IsEditFault layers edits)
+  fault_at_end lists made same given is =
+      let here = subst (λ (l : Layers G). edits_give 1 l edits ≡ Ok made) same given in fault_is NoMemory is (no_end made here)
+
+pub both_are : {G : Type 0} (l r l' r' : Contents G) → l ≡ l' → r ≡ r' → both l r ≡ both l' r'
+both_are l r l' r' same other = λ i. both (same i) (other i)

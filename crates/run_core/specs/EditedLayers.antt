@@ -5,7 +5,7 @@ use Rattle.layer_core.specs.declared.fault.LayerFault.{LayerFault}
 use Rattle.layer_core.specs.declared.fault.LayerFault.TheVariants.{Memory as no_memory}
 use Rattle.format_core.specs.Formats.{Reading}
 use Rattle.row_core.specs.declared.read_fault.ReadFault.{ReadFault}
-use Rattle.row_core.specs.declared.read_fault.ReadFault.TheVariants.{Io}
+use Rattle.row_core.specs.declared.read_fault.ReadFault.TheVariants.{Io, Memory as no_bytes}
 use Rattle.layer_core.specs.Layers.{Contents}
 use Rattle.layer_core.specs.Edits.{EditContent, Layers, both, edits_give}
 use Rattle.file_core.specs.EditFiles.{IsEditFile}
@@ -144,14 +144,24 @@ AreEdited {G} reads file old new =
     (edits : List (EditContent G)) × EditFile reads file (Ok edits)
     × (edits_give 1 old edits ≡ Ok new)
 
--- why not all edits of a file are applied: it can't be read, or applying them ends at a row
+-- why not all of some edits are applied, or their layers aren't there: applying them ends at a row,
+-- memory runs out before a layer can be edited, or once all edits are applied
+pub data IsEditFault {G : Type 0} (layers : Layers G) (edits : List (EditContent G))
+    : RunFault → Type 0 where
+  ended : (row : ℕ) (f : LayerFault) → EndsAt row f layers edits
+      → IsEditFault layers edits (Edit row f)
+  no_left : IsEditFault layers edits (Read Left no_bytes)
+  no_right : IsEditFault layers edits (Read Right no_bytes)
+  no_end : (made : Layers G) → edits_give 1 layers edits ≡ Ok made
+      → IsEditFault layers edits Memory
+
+-- why there are no layers after all edits of a file: it can't be read, or they can't be applied
 pub data IsEditsFault {G : Type 0} (reads : Reading G) (file : Option (Option (List ℕ)))
     (layers : Layers G) : RunFault → Type 0 where
   unread : (f : ReadFault) → (BlamesBytes f → EditFile reads file (Err f))
       → IsEditsFault reads file layers (Read Edits f)
-  ended : (edits : List (EditContent G)) (row : ℕ) (f : LayerFault)
-      → EditFile reads file (Ok edits) → EndsAt row f layers edits
-      → IsEditsFault reads file layers (Edit row f)
+  unmade : (edits : List (EditContent G)) (e : RunFault) → EditFile reads file (Ok edits)
+      → IsEditFault layers edits e → IsEditsFault reads file layers e
 
 -- both layer files are valid
 abbrev pub GiveLayers : {G : Type 0} → JoinFiles G → Type 0

@@ -13,7 +13,7 @@ ghost use Rattle.run_core.specs.EditedLayers.{skipped_lists};
 ghost use Rattle.run_core.specs.Marks.{AreRowsMarked, MarkedFrom, marked_lists, numbers_of};
 ghost use Rattle.run_core.specs.SourceStates.{AreFresh, TellsFailures};
 
-use crate::edits::apply_edits;
+use crate::edits::edit_both;
 use crate::fault::{Input, RunFault};
 use crate::layers::read_layers;
 use crate::loaded::LoadedLayers;
@@ -101,13 +101,14 @@ where
     let loaded = read_layers(reader, unreadable, states, left, right)?;
     // Lack of memory for the rows is a fault that comes after those of the edits.
     let found = rows_of(reader.alloc, marks, &loaded);
-    let LoadedLayers {
-        mut layers,
-        skipped,
-    } = loaded;
-    edit_layers(reader.alloc, reader.format, &mut sources.edits, &mut layers)?;
+    let LoadedLayers { layers, skipped } = loaded;
+    let edits = &mut sources.edits;
+    let edited = edit_layers(reader.alloc, reader.format, states, edits, layers)?;
     *rows = found?;
-    Ok(LoadedLayers { layers, skipped })
+    Ok(LoadedLayers {
+        layers: edited,
+        skipped,
+    })
 }
 
 /// The rows of both files whose geometries have a property, before any edit.
@@ -134,23 +135,25 @@ fn rows_of<G: Geometry, M: Marks<G>>(
     })
 }
 
-/// Applies the edits of a file in order, if there is one, up to the first that is refused.
+/// Both layers after the edits of a file in order, if there is one, up to the first that is refused.
 fn edit_layers<F: Format, E: Source>(
     alloc: Global,
     format: F,
+    states: (RandomState, RandomState),
     edits: &mut Option<E>,
-    layers: &mut (Layer<F::Geometry>, Layer<F::Geometry>),
-) -> Result<(), RunFault>
+    layers: (Layer<F::Geometry>, Layer<F::Geometry>),
+) -> Result<(Layer<F::Geometry>, Layer<F::Geometry>), RunFault>
     requires { IfSome edits.old (λ e. E.has_failed e ≡ false) }
-    ensures ok { OnOk result (AreEdited (F.reads format) (bytes_of E.remaining edits.old)
-        (both layers.old.0.list layers.old.1.list) (both layers.new.0.list layers.new.1.list)) }
+    ensures ok { IfOk result (λ edited. AreEdited (F.reads format)
+        (bytes_of E.remaining edits.old) (both layers.0.list layers.1.list)
+        (both edited.0.list edited.1.list)) }
     ensures fault { IfErr result (IsEditsFault (F.reads format) (bytes_of E.remaining edits.old)
-        (both layers.old.0.list layers.old.1.list)) }
+        (both layers.0.list layers.1.list)) }
     ensures io { IsErrOf result (RunFault.Read Input.Edits ReadFault.Io)
         ↔ IsSomeAnd edits.new (λ e. IsTrue (E.has_failed e)) }
 {
     let edit_list = read_edit_list(alloc, format, edits)?;
-    apply_edits(edit_list, &mut layers.0, &mut layers.1)
+    edit_both(edit_list, states, layers)
 }
 
 /// The edits, if there is a file of them.

@@ -1,8 +1,8 @@
-//! Joins whose readers or writers fail or transfer one byte at a time, and ids that need quotes.
+//! Joins whose readers or writers fail or transfer one byte at a time.
 
 use crate::device::{has_front, make_device};
-use crate::example::{EDITED, REPORT, RIGHT};
-use crate::running::{Files, at_once, edited_example, ends, example, make_job, run};
+use crate::example::{EDITED, REPORT};
+use crate::join_running::{Files, at_once, edited_example, ends, example, make_job, run};
 use options_core::{Options, Product};
 use relation_core::Relation;
 use row_core::ReadFault;
@@ -10,17 +10,6 @@ use run_core::{Input, RunFault};
 use std::random::RandomSource;
 use std::sync::Wait;
 use std::thread::Threads;
-
-#[test]
-fn broken_9(rt: HostRuntime) {
-    let files = Files {
-        left: at_once("id,wkt\n\"a,\"\"b\",POINT (4 4)\n"),
-        right: at_once(RIGHT),
-        edits: Some(at_once("op,layer,id,wkt\n")),
-    };
-    let report = "left,right,matrix\n\"a,\"\"b\",x,F0FFFF212\n";
-    assert!(rt; ends(&rt, &files, Ok(()), report) == Some(true));
-}
 
 /// The files of the example with its edits, one of which fails after `reads` reads.
 fn failing(input: Input, reads: usize) -> Files<'static> {

@@ -1,8 +1,7 @@
-//! Tests of runs over files, from outside: worked examples, and devices that fail.
+//! Tests of runs over readers and writers, from outside: readers and writers that fail, refused
+//! allocations, joins by any options, and the lines of faults.
 #![tactic(auto)]
 
-#[cfg(test)]
-mod any_joining;
 #[cfg(test)]
 mod bounds_runs;
 #[cfg(test)]
@@ -10,19 +9,21 @@ mod broken;
 #[cfg(test)]
 mod device;
 #[cfg(test)]
-mod drawing;
-#[cfg(test)]
 mod example;
 #[cfg(test)]
-mod joining;
+mod fault_lines;
+#[cfg(test)]
+mod join_refused;
+#[cfg(test)]
+mod join_running;
 #[cfg(test)]
 mod layer_runs;
 #[cfg(test)]
-mod refused;
+mod near_refused;
+#[cfg(test)]
+mod near_running;
 #[cfg(test)]
 mod relating;
-#[cfg(test)]
-mod running;
 #[cfg(test)]
 mod thousand_joins;
 #[cfg(test)]

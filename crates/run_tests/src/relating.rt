@@ -1,125 +1,20 @@
-//! Rows of `run_relate`, and devices that fail during it.
+//! Devices that fail during `run_relate`.
 
 ghost use Rattle.std.specs.Prelude.{◌≡◌, false};
 ghost use Rattle.report_core.specs.ToWrite.{failed_of};
 
 use crate::device::{has_front, make_device};
-use crate::running::Ended;
+use crate::join_running::Ended;
 use join_core::run_relate;
 use report_core::{Sink, ToWrite, WriteFailed};
-use run_core::{Input, RunFault, fault_line};
+use run_core::{RunFault, fault_line};
 use std::io;
 use std::io::{ErrorKind, Write};
-use wkt_core::{Scale, WktFault};
+use wkt_core::Scale;
 
 const SQUARE: &str = "POLYGON ((0 0, 4 0, 4 4, 0 4, 0 0))";
 
 const OTHER: &str = "POLYGON ((2 2, 6 2, 6 6, 2 6, 2 2))";
-
-/// Whether `run_relate` with `digits` decimals has this result and writes this text.
-fn relates(
-    rt: &HostRuntime,
-    digits: u32,
-    texts: (&str, &str),
-    outcome: Result<(), RunFault>,
-    text: &str,
-) -> Option<bool> {
-    let mut sink = ToWrite::new(Vec::new(rt.alloc()));
-    let (a, b) = (texts.0.as_bytes(), texts.1.as_bytes());
-    let ended = run_relate(Scale::new(digits)?, a, b, &mut sink);
-    Some(Ended::new(ended, sink.into_inner()).is(outcome, text))
-}
-
-/// The name of a row, two geometries with integer coordinates, and the line of their matrix.
-type Row = (&'static str, &'static str, &'static str, &'static str);
-
-const MATRICES: &[Row] = &[
-    ("relate_points", "POINT (4 4)", "POINT(4 4)", "0FFFFFFF2\n"),
-    ("relate_points", "POINT (4 4)", "POINT (5 4)", "FF0FFF0F2\n"),
-    ("relate_rectangles", SQUARE, OTHER, "212101212\n"),
-    (
-        "corner_rectangles",
-        SQUARE,
-        "POLYGON ((4 4, 8 4, 8 8, 4 8, 4 4))",
-        "FF2F01212\n",
-    ),
-    (
-        "ring_spellings",
-        SQUARE,
-        "polygon((4 4,4 0,0 0,0 4,4 4))",
-        "2FFF1FFF2\n",
-    ),
-    (
-        "segment_on_edge",
-        "LINESTRING (1 0, 3 0)",
-        SQUARE,
-        "F1FF0F212\n",
-    ),
-    (
-        "segment_inside",
-        "LINESTRING (0 2, 2 2)",
-        SQUARE,
-        "1FF00F212\n",
-    ),
-    (
-        "segments_meet",
-        "LINESTRING (-1 2, 5 2)",
-        "LINESTRING (2 -1, 2 5)",
-        "0F1FF0102\n",
-    ),
-    (
-        "segments_meet",
-        "LINESTRING (0 0, 4 0)",
-        "LINESTRING (2 0, 6 0)",
-        "1010F0102\n",
-    ),
-];
-
-#[test]
-fn matrices(rt: HostRuntime) {
-    for (name, a, b, line) in MATRICES {
-        assert!(rt;
-            relates(&rt, 0, (a, b), Ok(()), line) == Some(true),
-            "{name}"
-        );
-    }
-}
-
-#[test]
-fn scale_10(rt: HostRuntime) {
-    let texts = ("POINT (0.5 0)", "LINESTRING (0 0, 0.3 0, 1 0)");
-    assert!(rt; relates(&rt, 1, texts, Ok(()), "0FFFFF102\n") == Some(true));
-    let number = RunFault::Wkt(Input::First, WktFault::Number);
-    assert!(rt; relates(&rt, 0, texts, Err(number), "") == Some(true));
-}
-
-#[test]
-fn texts_at_fault(rt: HostRuntime) {
-    let (text, form) = ("POINT (5 4)", "LINESTRING (0 0, 1 1)");
-    for (name, texts, input, fault) in [
-        (
-            "canonical_only",
-            ("POINT (4 4", text),
-            Input::First,
-            WktFault::Text,
-        ),
-        (
-            "first_fault_is_answered",
-            ("POINT (1.5 0)", ""),
-            Input::First,
-            WktFault::Number,
-        ),
-        (
-            "first_fault_is_answered",
-            ("POINT (1 0)", form),
-            Input::Second,
-            WktFault::Form,
-        ),
-    ] {
-        let outcome = Err(RunFault::Wkt(input, fault));
-        assert!(rt; relates(&rt, 0, texts, outcome, "") == Some(true), "{name}");
-    }
-}
 
 /// Whether a device of capacity `room` that takes at most `step` bytes per call receives the prefix
 /// of a line that fits, and the sink has failed unless all of it fits.

@@ -1,7 +1,7 @@
 //! A thousand joins with few and many workers, small and large batches, and each depth of cut: all
 //! joins of the same two layers write the same bytes.
 
-use crate::running::{Files, at_once, join};
+use crate::join_running::{Files, at_once, join};
 use options_core::Options;
 use relation_core::Relation;
 use std::random::RandomSource;

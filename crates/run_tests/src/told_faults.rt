@@ -1,16 +1,13 @@
-//! The lines of the faults of runs.
+//! The line of the fault of a run.
 
-use crate::example::{LEFT, RIGHT};
-use crate::running::{Files, at_once, join};
+use crate::join_running::{Files, at_once, join};
 use options_core::Options;
 use relation_core::Relation;
 use report_core::ToWrite;
 use run_core::fault_line;
-use std::alloc::AllocError;
 use std::random::RandomSource;
 use std::sync::Wait;
 use std::thread::Threads;
-use test_data::points_text;
 
 /// Whether a join by touches fails, writes nothing and has this fault line.
 fn is_told<R: Threads + Wait + Sync + RandomSource + AllocGlobal>(
@@ -31,17 +28,6 @@ fn is_told<R: Threads + Wait + Sync + RandomSource + AllocGlobal>(
 const UNKNOWN_ID: &str = "op,layer,id,wkt\ndelete,left,a,\ndelete,right,a,\ndelete,left,b,\n";
 
 #[test]
-fn unknown_id(rt: HostRuntime) {
-    let files = Files {
-        left: at_once(LEFT),
-        right: at_once(RIGHT),
-        edits: Some(at_once(UNKNOWN_ID)),
-    };
-    let line = "rjoin: edits: row 2: no such id\n";
-    assert!(rt; is_told(&rt, &files, line) == Some(true));
-}
-
-#[test]
 fn double_id_on_the_left(rt: HostRuntime) {
     let files = Files {
         left: at_once("id,wkt\na,POINT (0 0)\nb,POINT (1 0)\na,POINT (2 0)\n"),
@@ -50,18 +36,4 @@ fn double_id_on_the_left(rt: HostRuntime) {
     };
     let line = "rjoin: left: row 3: id is already there\n";
     assert!(rt; is_told(&rt, &files, line) == Some(true));
-}
-
-#[test]
-fn ragged_row_after_a_thousand_good_ones(rt: HostRuntime) -> Result<(), AllocError> {
-    let mut right = points_text(rt.alloc(), 1_000)?;
-    right.push_str("last\n")?;
-    let files = Files {
-        left: at_once(LEFT),
-        right: at_once(right.as_str()),
-        edits: Some(at_once("id,wkt\n")),
-    };
-    let line = "rjoin: right: row 1001: wrong fields\n";
-    assert!(rt; is_told(&rt, &files, line) == Some(true));
-    Ok(())
 }

@@ -3,7 +3,7 @@
 use crate::token::skip_word;
 
 /// The kind of a geometry, as its text names it.
-#[derive(Clone, Copy, Debug, PartialEq, Eq)]
+#[derive(Clone, Copy, PartialEq, Eq)]
 pub enum Keyword {
     Point,
     LineString,

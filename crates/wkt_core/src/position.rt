@@ -8,7 +8,7 @@ use crate::token::skip_gap;
 use number_core::{ReadNumber, Scale, read_number};
 
 /// A point of the plane.
-#[derive(Clone, Copy, Debug, Default, PartialEq, Eq)]
+#[derive(Clone, Copy, Default, PartialEq, Eq)]
 pub struct Position {
     pub x: i64,
     pub y: i64,

@@ -9,7 +9,7 @@ use plane_core::Rings;
 use relation_core::{AllowsDisjoint, JoinRelation, Relation};
 
 /// The kind of geometries that a command takes.
-#[derive(Clone, Copy, Debug, PartialEq, Eq)]
+#[derive(Clone, Copy, PartialEq, Eq)]
 pub enum Geometries {
     /// Points, segments parallel to an axis, and rectangles.
     Box,
@@ -18,7 +18,7 @@ pub enum Geometries {
 }
 
 /// A relation of geometries of one kind that holds for no two disjoint ones.
-#[derive(Clone, Copy, Debug, PartialEq, Eq)]
+#[derive(Clone, Copy, PartialEq, Eq)]
 pub enum Condition {
     /// A relation of points, segments parallel to an axis, and rectangles.
     Boxes(JoinRelation),

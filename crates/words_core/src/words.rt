@@ -17,7 +17,7 @@ use thiserror::Error;
 use usage_core::usage_of;
 
 /// Two geometries given as texts, and how to read them.
-#[derive(Clone, Copy, Debug, PartialEq, Eq)]
+#[derive(Clone, Copy, PartialEq, Eq)]
 pub struct RelateRequest<'a> {
     pub a: &'a str,
     pub b: &'a str,
@@ -26,7 +26,7 @@ pub struct RelateRequest<'a> {
 }
 
 /// The paths of the files of two layers, and of their edits, if there are any.
-#[derive(Clone, Copy, Debug, PartialEq, Eq)]
+#[derive(Clone, Copy, PartialEq, Eq)]
 pub struct LayerPaths<'a> {
     pub left: &'a str,
     pub right: &'a str,
@@ -37,7 +37,7 @@ pub struct LayerPaths<'a> {
 }
 
 /// How the number of workers of the options is meant.
-#[derive(Clone, Copy, Debug, PartialEq, Eq)]
+#[derive(Clone, Copy, PartialEq, Eq)]
 pub enum Workers {
     /// That many.
     Exact,
@@ -46,7 +46,7 @@ pub enum Workers {
 }
 
 /// Two layers to join after edits, how to read and join them, and what to write.
-#[derive(Clone, Copy, Debug, PartialEq, Eq)]
+#[derive(Clone, Copy, PartialEq, Eq)]
 pub struct JoinRequest<'a> {
     pub product: Product,
     pub paths: LayerPaths<'a>,
@@ -57,7 +57,7 @@ pub struct JoinRequest<'a> {
 }
 
 /// Two layers to join by distance after edits, and how to read and join them.
-#[derive(Clone, Copy, Debug, PartialEq, Eq)]
+#[derive(Clone, Copy, PartialEq, Eq)]
 pub struct NearRequest<'a> {
     pub paths: LayerPaths<'a>,
     /// In units of the scale.
@@ -71,7 +71,7 @@ pub struct NearRequest<'a> {
 
 /// Two layers, how to read them after edits, and which features of the second are sought for each
 /// of the first.
-#[derive(Clone, Copy, Debug, PartialEq, Eq)]
+#[derive(Clone, Copy, PartialEq, Eq)]
 pub struct NearestRequest<'a> {
     pub paths: LayerPaths<'a>,
     /// Its distance is in units of the scale.
@@ -83,7 +83,7 @@ pub struct NearestRequest<'a> {
 }
 
 /// A layer, and how to read it.
-#[derive(Clone, Copy, Debug, PartialEq, Eq)]
+#[derive(Clone, Copy, PartialEq, Eq)]
 pub struct LayerRequest<'a> {
     pub path: &'a str,
     pub scale: Scale,
@@ -91,7 +91,7 @@ pub struct LayerRequest<'a> {
 }
 
 /// A command of the program, with its arguments. Texts and paths borrow from the words.
-#[derive(Clone, Copy, Debug, PartialEq, Eq)]
+#[derive(Clone, Copy, PartialEq, Eq)]
 pub enum Command<'a> {
     /// Write the matrix of two geometries.
     Relate(RelateRequest<'a>),

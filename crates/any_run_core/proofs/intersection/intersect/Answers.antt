@@ -2,7 +2,8 @@ use Rattle.std.proofs.Common.{sym, subst₂}
 use Rattle.geom_core.specs.Cells.{Meets}
 use Rattle.plane_core.specs.PlaneMatrices.{IsPlaneMatrix}
 use Rattle.any_geometry_core.specs.AnyGeometries.{figure_of}
-use Rattle.any_run_core.proofs.IntersectionLemmas.{boxes_meet, common_where_intersect}
+use Rattle.any_relation_core.proofs.SetLemmas.{common_where_intersect}
+use Rattle.any_run_core.proofs.IntersectionLemmas.{boxes_meet}
 use Rattle.any_run_core.proofs.intersection.intersect.Goals as goal
 
 -- boxes that don't meet

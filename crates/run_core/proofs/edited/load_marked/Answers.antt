@@ -18,25 +18,25 @@ returns-in_err-loaded-clause-faults g c =
     let files = files_by c.args.unreadable (g.F.Format.reads c.args.reader.now.format) g.A.Source.remaining g.B.Source.remaining g.E.Source.remaining c.args.sources.now in
     is_join_fault files c.from_residual.result _ _ c.from_residual.ensures.1 refl (layers_join_fault files _ c.in_err-loaded.ensures.fault)
 
-pub returns-in_err-edit_layers-clause-fault : goal.returns-in_err-edit_layers-clause-fault
-returns-in_err-edit_layers-clause-fault g c =
+pub returns-in_err-edited-clause-fault : goal.returns-in_err-edited-clause-fault
+returns-in_err-edited-clause-fault g c =
     let files = files_by c.args.unreadable (g.F.Format.reads c.args.reader.now.format) g.A.Source.remaining g.B.Source.remaining g.E.Source.remaining c.args.sources.now in
-    let r = c.from_residual-in_err-edit_layers in
+    let r = c.from_residual-in_err-edited in
     edits_blamed files _ _ (loads_layer files.reads files.unreadable files.left _ _ c.in_ok-loaded.ensures.left)
-    (loads_layer files.reads files.unreadable files.right _ _ c.in_ok-loaded.ensures.right) r.result _ r.ensures.1 c.in_err-edit_layers.ensures.fault
+    (loads_layer files.reads files.unreadable files.right _ _ c.in_ok-loaded.ensures.right) r.result _ r.ensures.1 c.in_err-edited.ensures.fault
 
-pub returns-in_err-edit_layers-clause-faults : goal.returns-in_err-edit_layers-clause-faults
-returns-in_err-edit_layers-clause-faults g c =
+pub returns-in_err-edited-clause-faults : goal.returns-in_err-edited-clause-faults
+returns-in_err-edited-clause-faults g c =
     let files = files_by c.args.unreadable (g.F.Format.reads c.args.reader.now.format) g.A.Source.remaining g.B.Source.remaining g.E.Source.remaining c.args.sources.now in
-    let r = c.from_residual-in_err-edit_layers in
+    let r = c.from_residual-in_err-edited in
     edits_join_fault files _ _ (loads_layer files.reads files.unreadable files.left _ _ c.in_ok-loaded.ensures.left)
-    (loads_layer files.reads files.unreadable files.right _ _ c.in_ok-loaded.ensures.right) r.result _ r.ensures.1 c.in_err-edit_layers.ensures.fault
+    (loads_layer files.reads files.unreadable files.right _ _ c.in_ok-loaded.ensures.right) r.result _ r.ensures.1 c.in_err-edited.ensures.fault
 
 pub returns-clause-ok : goal.returns-clause-ok
 returns-clause-ok g c =
     let files = files_by c.args.unreadable (g.F.Format.reads c.args.reader.now.format) g.A.Source.remaining g.B.Source.remaining g.E.Source.remaining c.args.sources.now in
     layers_edited files _ _ (loads_layer files.reads files.unreadable files.left _ _ c.in_ok-loaded.ensures.left)
-    (loads_layer files.reads files.unreadable files.right _ _ c.in_ok-loaded.ensures.right) _ c.in_ok-edit_layers.ensures.ok
+    (loads_layer files.reads files.unreadable files.right _ _ c.in_ok-loaded.ensures.right) _ c.in_ok-edited.ensures.ok
 
 pub returns-clause-skipped : goal.returns-clause-skipped
 returns-clause-skipped g c =
@@ -55,19 +55,19 @@ returns-in_err-loaded-clause-io g c =
     (edits_unread _ _ out _ c.requires.edits c.from_residual.ensures.1 (none_of_edits (g.F.Format.reads c.args.reader.now.format) c.args.unreadable _ _ _ c.in_err-loaded.ensures.fault))
     (is_join_kind out _ _ c.from_residual.ensures.1 refl (layers_join_kind (g.F.Format.reads c.args.reader.now.format) c.args.unreadable _ _ _ c.in_err-loaded.ensures.fault))
 
-pub returns-in_err-edit_layers-clause-io : goal.returns-in_err-edit_layers-clause-io
-returns-in_err-edit_layers-clause-io g c =
-    let r = c.from_residual-in_err-edit_layers in
+pub returns-in_err-edited-clause-io : goal.returns-in_err-edited-clause-io
+returns-in_err-edited-clause-io g c =
+    let r = c.from_residual-in_err-edited in
     let layers = c.in_ok-loaded.loaded.layers in
-    edits_io {layers = both layers.0.list layers.1.list} _ _ _ r.result _ _ r.ensures.1 c.in_err-edit_layers.ensures.fault c.in_ok-loaded.ensures.left_io c.in_ok-loaded.ensures.right_io
-    c.in_err-edit_layers.ensures.io
+    edits_io {layers = both layers.0.list layers.1.list} _ _ _ r.result _ _ r.ensures.1 c.in_err-edited.ensures.fault c.in_ok-loaded.ensures.left_io c.in_ok-loaded.ensures.right_io
+    c.in_err-edited.ensures.io
 
 pub returns-clause-io : goal.returns-clause-io
 returns-clause-io g c =
     failed_at _ _ _ _
     (io_before _ Left _ (λ _. ⊥) (λ f none. none) _ c.in_ok-loaded.ensures.left_io tt)
     (io_before _ Right _ (λ _. ⊥) (λ f none. none) _ c.in_ok-loaded.ensures.right_io tt)
-    (io_before _ Edits _ (λ _. ⊥) (λ f none. none) _ c.in_ok-edit_layers.ensures.io tt)
+    (io_before _ Edits _ (λ _. ⊥) (λ f none. none) _ c.in_ok-edited.ensures.io tt)
     tt
 
 pub returns-in_err-rows-clause-fault : goal.returns-in_err-rows-clause-fault
@@ -84,7 +84,7 @@ returns-in_err-rows-clause-faults g c =
       (
         _,
         layers_edited files _ _ (loads_layer files.reads files.unreadable files.left _ _ c.in_ok-loaded.ensures.left)
-            (loads_layer files.reads files.unreadable files.right _ _ c.in_ok-loaded.ensures.right) _ c.in_ok-edit_layers.ensures.ok,
+            (loads_layer files.reads files.unreadable files.right _ _ c.in_ok-loaded.ensures.right) _ c.in_ok-edited.ensures.ok,
       ),
     )
 
@@ -95,7 +95,7 @@ returns-in_err-rows-clause-io g c =
     failed_at _ _ _ r.result
     (io_before r.result Left _ (λ f. f ≡ Memory) (λ f q. absurd cc) _ c.in_ok-loaded.ensures.left_io is)
     (io_before r.result Right _ (λ f. f ≡ Memory) (λ f q. absurd cc) _ c.in_ok-loaded.ensures.right_io is)
-    (io_before r.result Edits _ (λ f. f ≡ Memory) (λ f q. absurd cc) _ c.in_ok-edit_layers.ensures.io is)
+    (io_before r.result Edits _ (λ f. f ≡ Memory) (λ f q. absurd cc) _ c.in_ok-edited.ensures.io is)
     (memory_kind r.result is)
 
 pub returns-clause-marked : goal.returns-clause-marked

@@ -12,4 +12,4 @@ returns-clause-file g c known =
     let loads = c.in_ok-features.ensures.file (λ e. let none = e in cc) in
     let P : Unreadable → Type 0 = λ u.
     LoadsFile reads unreadable c.args.bytes.now (Ok (record { unreadable = u; list = loading.features; skipped = map skipped_content loading.skipped.items })) in
-    subst P (file_keeps reads unreadable c.args.bytes.now (loaded_of loading) loads) loads
+    rw c.in_ok-finish.ensures (subst P (file_keeps reads unreadable c.args.bytes.now (loaded_of loading) loads) loads)

@@ -1,5 +1,0 @@
-use Rattle.deliver_core.specs.Boards.{IsSeatOf}
-use Rattle.deliver_tests.proofs.board.draw_all.Given as goal
-
-abbrev pub invariant-loop : goal.invariant-loop
-invariant-loop l = IsSeatOf l.board l.seat

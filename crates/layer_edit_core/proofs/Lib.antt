@@ -1,0 +1,5 @@
+pub mod SlotLemmas
+pub mod MapLemmas
+pub mod IdLemmas
+pub mod LayerTreeLemmas
+pub mod Rules

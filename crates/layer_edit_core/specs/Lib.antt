@@ -1,0 +1,3 @@
+pub mod EditCodes
+pub mod FeaturesById
+pub mod RisingIds

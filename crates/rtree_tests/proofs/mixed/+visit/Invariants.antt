@@ -1,5 +1,0 @@
-use Rattle.rtree_core.specs.Nodes.{level_of}
-use Rattle.rtree_tests.proofs.mixed.+visit.Given as goal
-
-abbrev pub decreases-visit : goal.decreases-visit
-decreases-visit l = level_of l.node.now

@@ -1,6 +1,0 @@
-use Rattle.std.proofs.Common.{ℕ, ◌≤◌}
-use Rattle.rtree_core.specs.Trees.{IsFresh}
-use Rattle.rtree_tests.proofs.mixed.Trial.edit.Given as goal
-
-abbrev pub invariant-loop-number : goal.invariant-loop-number
-invariant-loop-number l = (k : ℕ) → l.number ≤ k → IsFresh k l.self.tree

@@ -1,5 +1,0 @@
-use Rattle.rtree_tests.proofs.NumberLemmas.{AreBelow}
-use Rattle.rtree_tests.proofs.threads.listed.Given as goal
-
-abbrev pub invariant-loop-number : goal.invariant-loop-number
-invariant-loop-number l = AreBelow l.number l.entries.items

@@ -1,6 +1,0 @@
-use Rattle.std.proofs.Common.{◌≡◌, vec_len}
-use Rattle.rtree_tests.proofs.NumberLemmas.{AreBelow}
-use Rattle.rtree_tests.proofs.trees.Squares.listed.Given as goal
-
-abbrev pub invariant-loop-number : goal.invariant-loop-number
-invariant-loop-number l = record { below : AreBelow l.number l.entries.items; len : vec_len l.entries ≡ l.number }

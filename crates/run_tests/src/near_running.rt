@@ -1,0 +1,158 @@
+//! Joins by distance and searches for the nearest features over files in memory.
+
+ghost use Rattle.run_core.specs.SourceStates.{AreFresh};
+
+use near_core::Nearness;
+use near_run_core::{
+    AnyNearJob, AnyNearestJob, NearJob, NearestJob, run_any_near, run_any_nearest, run_near,
+    run_nearest,
+};
+use nearest_core::{Distance, Query};
+use options_core::Options;
+use plane_core::Rings;
+use report_core::ToWrite;
+use row_core::{FromRead, Source};
+use run_core::{JoinSources, RunFault};
+use std::hash::RandomState;
+use std::random::RandomSource;
+use std::sync::Wait;
+use std::thread::Threads;
+use wkt_core::Scale;
+
+/// The texts of the files of a join.
+#[derive(Clone, Copy)]
+pub(crate) struct Files<'a> {
+    pub(crate) left: &'a str,
+    pub(crate) right: &'a str,
+    pub(crate) edits: Option<&'a str>,
+}
+
+/// The result of a run, and its output.
+#[derive(Drop)]
+pub(crate) struct Ended {
+    pub(crate) outcome: Result<(), RunFault>,
+    pub(crate) written: Vec<u8>,
+}
+
+impl Ended {
+    /// Whether the result and the output are these.
+    pub(crate) fn is(&self, outcome: Result<(), RunFault>, text: &str) -> bool {
+        self.outcome == outcome && self.written.as_slice() == text.as_bytes()
+    }
+}
+
+/// The join within so many units at scale 0, or `None` if there is no such distance.
+fn near_job(units: u64, workers: u32) -> Option<NearJob> {
+    Some(NearJob {
+        scale: Scale::new(0)?,
+        distance: Distance::new(units)?,
+        nearness: Nearness::Within,
+        options: Options::new(workers, 1, 8).ok()?,
+    })
+}
+
+/// The search for so many features at any distance at scale 0, or `None` if none is sought.
+fn nearest_job(most: u32, workers: u32) -> Option<NearestJob> {
+    Some(NearestJob {
+        scale: Scale::new(0)?,
+        query: Query::new(most, None)?,
+        options: Options::new(workers, 1, 8).ok()?,
+    })
+}
+
+/// The capacity reserved for a report before a run, so that writing it allocates no memory.
+const ROOM: usize = 200;
+
+/// The files, opened.
+type Opened<'a> = JoinSources<FromRead<&'a [u8]>, FromRead<&'a [u8]>, FromRead<&'a [u8]>>;
+
+/// Opens these files.
+fn opened<'a>(files: Files<'a>) -> Opened<'a>
+    ensures fresh { let has_failed = ⟦<FromRead<&'a [u8]> as Source>⟧.has_failed in
+        AreFresh has_failed has_failed has_failed result }
+{
+    JoinSources {
+        left: FromRead::new(files.left.as_bytes()),
+        right: FromRead::new(files.right.as_bytes()),
+        edits: files.edits.map(|edits| FromRead::new(edits.as_bytes())),
+    }
+}
+
+/// The run of a join of these files within so many units by `workers` workers, or `None` if there
+/// are no keys for hashing, no such job or no memory for the report.
+pub(crate) fn join<R: RandomSource + AllocGlobal + Threads + Wait + Sync>(
+    rt: &R,
+    files: Files<'_>,
+    units: u64,
+    workers: u32,
+) -> Option<Ended> {
+    let job = near_job(units, workers)?;
+    let states = (RandomState::new(rt).ok()?, RandomState::new(rt).ok()?);
+    let mut sources = opened(files);
+    let mut sink = ToWrite::new(Vec::with_capacity(rt.alloc(), ROOM).ok()?);
+    let outcome = run_near(rt, &job, states, &mut sources, &mut sink);
+    Some(Ended {
+        outcome,
+        written: sink.into_inner(),
+    })
+}
+
+/// The same of layers of any geometry.
+pub(crate) fn join_any<R: RandomSource + AllocGlobal + Threads + Wait + Sync>(
+    rt: &R,
+    files: Files<'_>,
+    units: u64,
+    workers: u32,
+) -> Option<Ended> {
+    let job = AnyNearJob {
+        near: near_job(units, workers)?,
+        rings: Rings::Proper,
+    };
+    let states = (RandomState::new(rt).ok()?, RandomState::new(rt).ok()?);
+    let mut sources = opened(files);
+    let mut sink = ToWrite::new(Vec::with_capacity(rt.alloc(), ROOM).ok()?);
+    let outcome = run_any_near(rt, &job, states, &mut sources, &mut sink);
+    Some(Ended {
+        outcome,
+        written: sink.into_inner(),
+    })
+}
+
+/// The same of a search for so many features.
+pub(crate) fn search<R: RandomSource + AllocGlobal + Threads + Wait + Sync>(
+    rt: &R,
+    files: Files<'_>,
+    most: u32,
+    workers: u32,
+) -> Option<Ended> {
+    let job = nearest_job(most, workers)?;
+    let states = (RandomState::new(rt).ok()?, RandomState::new(rt).ok()?);
+    let mut sources = opened(files);
+    let mut sink = ToWrite::new(Vec::with_capacity(rt.alloc(), ROOM).ok()?);
+    let outcome = run_nearest(rt, &job, states, &mut sources, &mut sink);
+    Some(Ended {
+        outcome,
+        written: sink.into_inner(),
+    })
+}
+
+/// The same of a search in layers of any geometry.
+pub(crate) fn search_any<R: RandomSource + AllocGlobal + Threads + Wait + Sync>(
+    rt: &R,
+    files: Files<'_>,
+    most: u32,
+    workers: u32,
+) -> Option<Ended> {
+    let job = AnyNearestJob {
+        nearest: nearest_job(most, workers)?,
+        rings: Rings::Proper,
+    };
+    let states = (RandomState::new(rt).ok()?, RandomState::new(rt).ok()?);
+    let mut sources = opened(files);
+    let mut sink = ToWrite::new(Vec::with_capacity(rt.alloc(), ROOM).ok()?);
+    let outcome = run_any_nearest(rt, &job, states, &mut sources, &mut sink);
+    Some(Ended {
+        outcome,
+        written: sink.into_inner(),
+    })
+}
