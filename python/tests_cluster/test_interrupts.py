@@ -4,6 +4,7 @@ from __future__ import annotations
 import os
 import signal
 from pathlib import Path
+from typing import Iterator
 
 import layers
 import psutil
@@ -18,16 +19,35 @@ def pair(tools: Tools) -> tuple[Path, Path]:
     return layers.write_pair(tools.folder, "rectangles", 20_000)
 
 
+# Makes the first join of tiles, and holds all others, so that no interrupt comes too late, however
+# busy the machine is: the shell waits until somebody opens the pipe for writing.
+HELD = """#!/bin/sh
+if [ "$1" = join ] && ! mkdir {folder}/first 2>/dev/null; then read -r _ <{folder}/held; fi
+exec {program} "$@"
+"""
+
+
+@pytest.fixture
+def held(tools: Tools) -> Iterator[str]:
+    """The words for a program that holds all joins of tiles but the first, until the test has ended."""
+    path, pipe = tools.folder / "rjoin", tools.folder / "held"
+    os.mkfifo(pipe)
+    path.write_text(HELD.format(folder=tools.folder, program=tools.program))
+    path.chmod(0o755)
+    yield str(path)
+    os.close(os.open(pipe, os.O_RDWR))
+
+
 INTERRUPTS = [signal.SIGINT, signal.SIGTERM, signal.SIGHUP]
 
 
 @pytest.mark.parametrize("number", INTERRUPTS)
 @pytest.mark.parametrize("local", [True, False])
 def test_the_command_is_interrupted(
-    tools: Tools, pair: tuple[Path, Path], number: signal.Signals, local: bool
+    tools: Tools, pair: tuple[Path, Path], held: str, number: signal.Signals, local: bool
 ) -> None:
     """As by Control-C in a terminal, whose signal reaches all processes of the command."""
-    more = ["--tiles", "24", "--block", "200000"]
+    more = ["--tiles", "24", "--block", "200000", "--program", held]
     words = tools.local_command(*pair, "intersects", *more)
     if not local:
         words += ["--scheduler", tools.scheduler]
@@ -58,8 +78,11 @@ def test_signals_that_are_ignored() -> None:
     assert signal.getsignal(signal.SIGTERM) is signal.SIG_DFL
 
 
-def test_what_interrupts_leave_no_run_going_on(tools: Tools, pair: tuple[Path, Path]) -> None:
-    with running_group(tools.local_command(*pair, "intersects", "--tiles", "24")) as process:
+def test_what_interrupts_leave_no_run_going_on(
+    tools: Tools, pair: tuple[Path, Path], held: str
+) -> None:
+    more = ["--tiles", "24", "--program", held]
+    with running_group(tools.local_command(*pair, "intersects", *more)) as process:
         wait_for(tools, "pairs-*.rows", process)
         runs = psutil.Process(process.pid).children(recursive=True)
         process.send_signal(signal.SIGTERM)
