@@ -3,8 +3,8 @@
 
     check/readmes.py       the status is 1 where one is missing, longer, or names a file that isn't there
 
-A section `Decisions` may follow the five lines, with the choices that concern this crate alone: each is a paragraph that
-begins with what was chosen, in bold.
+A section `Decisions` may follow the five lines, with the choices that concern this crate alone: each is a paragraph
+that begins with what was chosen, in bold.
 """
 import re
 import sys
