@@ -53,7 +53,7 @@ PAPERS = {
     "rjoin": {
         "README.md", "CHANGELOG.md", "docs/ARCHITECTURE.md", "docs/BENCH.md", "docs/DECISIONS.md",
         "docs/DEFINITIONS.md", "docs/FAULTS.md", "docs/GATE.md", "docs/GUARANTEES.md", "docs/INSTALL.md",
-        "docs/bench.svg", "docs/village.svg",
+        "docs/PLANE.md", "docs/bench.svg", "docs/village.svg",
     },
     "python3-rjoin": {"docs/PYTHON.md", "docs/CLUSTER.md", "docs/python.svg"},
     "rjoin-integrations": {
