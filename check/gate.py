@@ -94,6 +94,7 @@ PARTS = (
     Part("proofs", ("check/proofs.py",), 115),
     Part("faults", ("check/faults.py",), 2),
     Part("definitions", ("check/definitions.py", "--check"), 2),
+    Part("architecture", ("check/architecture.py", "--check"), 2),
     Part("guarantees", ("check/guarantees.py",), 2),
     Part("readmes", ("check/readmes.py",), 2),
     Part("mutants", ("check/mutants.py", "--changed"), 80, Lane.HEAVY, whole=("check/mutants.py",)),

@@ -52,8 +52,8 @@ OUTSIDE = {"LICENSE", "CONTRIBUTING.md", "../CONTRIBUTING.md", "../LICENSE"}
 PAPERS = {
     "rjoin": {
         "README.md", "CHANGELOG.md", "docs/ARCHITECTURE.md", "docs/BENCH.md", "docs/DECISIONS.md",
-        "docs/DEFINITIONS.md", "docs/FAULTS.md", "docs/GUARANTEES.md", "docs/INSTALL.md", "docs/bench.svg",
-        "docs/village.svg",
+        "docs/DEFINITIONS.md", "docs/FAULTS.md", "docs/GATE.md", "docs/GUARANTEES.md", "docs/INSTALL.md",
+        "docs/PLANE.md", "docs/bench.svg", "docs/village.svg",
     },
     "python3-rjoin": {"docs/PYTHON.md", "docs/CLUSTER.md", "docs/python.svg"},
     "rjoin-integrations": {

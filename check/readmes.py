@@ -2,6 +2,9 @@
 """Sees that each crate has a README of five lines at most, and that the files which it names are there.
 
     check/readmes.py       the status is 1 where one is missing, longer, or names a file that isn't there
+
+A section `Decisions` may follow the five lines, with the choices that concern this crate alone: each is a paragraph
+that begins with what was chosen, in bold.
 """
 import re
 import sys
@@ -10,6 +13,7 @@ from pathlib import Path
 
 ROOT = Path(__file__).resolve().parent.parent
 MOST_LINES = 5
+DECISIONS = "\n\n## Decisions\n\n"
 NAMED = re.compile(r"`((?:src|specs|proofs)/[\w/]+\.\w+)`")
 
 
@@ -20,8 +24,12 @@ def faults(crate: Path) -> Iterator[str]:
         yield "is not there"
         return
     text = page.read_text(encoding="utf-8")
-    if len(text.splitlines()) > MOST_LINES:
-        yield f"has more than {MOST_LINES} lines"
+    head, _, decisions = text.partition(DECISIONS)
+    if len(head.splitlines()) > MOST_LINES:
+        yield f"has more than {MOST_LINES} lines above its decisions"
+    for paragraph in decisions.split("\n\n") if decisions else ():
+        if not paragraph.startswith("**"):
+            yield f"has a decision without a title: {paragraph[:40]}"
     for name in NAMED.findall(text):
         if not (crate / name).is_file():
             yield f"names {name}, which is not there"
