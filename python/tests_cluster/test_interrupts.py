@@ -19,17 +19,19 @@ def pair(tools: Tools) -> tuple[Path, Path]:
     return layers.write_pair(tools.folder, "rectangles", 20_000)
 
 
-# Makes the first join of tiles, and holds all others, so that no interrupt comes too late, however
+# Holds each join that begins once a tile has its pairs, so that no interrupt comes too late, however
 # busy the machine is: the shell waits until somebody opens the pipe for writing.
 HELD = """#!/bin/sh
-if [ "$1" = join ] && ! mkdir {folder}/first 2>/dev/null; then read -r _ <{folder}/held; fi
+for pairs in {folder}/rjoin-cluster-*/pairs-*.rows; do
+    if [ "$1" = join ] && [ -e "$pairs" ]; then read -r _ <{folder}/held; break; fi
+done
 exec {program} "$@"
 """
 
 
 @pytest.fixture
 def held(tools: Tools) -> Iterator[str]:
-    """The words for a program that holds all joins of tiles but the first, until the test has ended."""
+    """The path of a program that holds joins of tiles until the test has ended."""
     path, pipe = tools.folder / "rjoin", tools.folder / "held"
     os.mkfifo(pipe)
     path.write_text(HELD.format(folder=tools.folder, program=tools.program))
