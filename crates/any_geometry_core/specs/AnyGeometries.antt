@@ -5,6 +5,7 @@ use Rattle.plane_core.specs.declared.rings.Rings.{Rings}
 use Rattle.plane_core.specs.Figures.{Figure}
 use Rattle.plane_core.specs.ProperRings.{IsGeometryOf}
 use Rattle.plane_core.specs.Vertices.{vertices_of, HoldsVertex}
+use Rattle.any_geometry_core.specs.Envelopes.{IsLeastBox}
 use Rattle.any_geometry_core.specs.declared.geometry.AnyGeometry.{AnyGeometry}
 
 abbrev pub figure_of : AnyGeometry → Figure
@@ -17,10 +18,14 @@ rings_of g = g.rings
 abbrev pub box_of : AnyGeometry → Shape
 box_of g = g.bounds
 
--- by its type it is a geometry with such rings, and its envelope holds all vertices
+-- by its type it is a geometry with such rings, and its envelope is the least box that holds all
+-- vertices
 pub is_geometry : (g : AnyGeometry) → ∥ IsGeometryOf (rings_of g) (figure_of g) ∥₁
 is_geometry g = g.is_geometry
 
 pub holds_vertices : (g : AnyGeometry)
     → ∥ All (HoldsVertex (box_of g)) (vertices_of (figure_of g)) ∥₁
 holds_vertices g = g.holds
+
+pub is_least : (g : AnyGeometry) → ∥ IsLeastBox (figure_of g) (box_of g) ∥₁
+is_least g = g.least

@@ -1,1 +1,2 @@
 pub mod AnyGeometries
+pub mod Envelopes

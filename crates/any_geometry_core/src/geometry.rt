@@ -3,6 +3,7 @@
 ghost use Rattle.std.specs.Prelude.{All};
 ghost use Rattle.plane_core.specs.ProperRings.{IsGeometryOf};
 ghost use Rattle.plane_core.specs.Vertices.{vertices_of, HoldsVertex};
+ghost use Rattle.any_geometry_core.specs.Envelopes.{IsLeastBox};
 
 use geom_core::Shape;
 use plane_core::{Geometry, Rings};
@@ -15,11 +16,11 @@ pub struct AnyGeometry {
     rings: Rings,
     ghost is_geometry: { ∥ IsGeometryOf rings geometry ∥₁ },
     ghost holds: { ∥ All (HoldsVertex bounds) (vertices_of geometry) ∥₁ },
+    ghost least: { ∥ IsLeastBox geometry bounds ∥₁ },
 }
 
 impl AnyGeometry {
     ghost use Rattle.std.specs.Prelude.{◌≡◌};
-    ghost use Rattle.geom_core.specs.Cells.{IsIn};
     ghost use Rattle.plane_core.specs.ProperRings.{TakesRings};
     ghost use Rattle.any_geometry_core.specs.AnyGeometries.{figure_of, rings_of, box_of};
 
@@ -28,8 +29,7 @@ impl AnyGeometry {
         requires { TakesRings rings geometry }
         ensures figure { figure_of result ≡ geometry }
         ensures rings { rings_of result ≡ rings }
-        ensures bounds { (s : Shape) → All (HoldsVertex s) (vertices_of geometry)
-            → IsIn (box_of result) s }
+        ensures bounds { IsLeastBox geometry (box_of result) }
     {
         let bounds = geometry.bounds();
         AnyGeometry {

@@ -1,4 +1,5 @@
 pub mod DecisionLemmas
+pub mod EnvelopeLemmas
 pub mod HeldLemmas
 pub mod JoinLemmas
 pub mod RefinedLayers

@@ -20,7 +20,7 @@ never_is_one : (a b : ⊥) → a ≡ b
 never_is_one a b = absurd a
 
 -- a geometry that a rule takes is one of that rule
-of_rule : (rule rings : Rings) (g : Figure) → TakesRule rule rings → IsGeometryOf rings g
+pub of_rule : (rule rings : Rings) (g : Figure) → TakesRule rule rings → IsGeometryOf rings g
     → IsGeometryOf rule g
 of_rule Proper Proper g takes is = is
 of_rule Proper EvenOdd g takes is = absurd takes

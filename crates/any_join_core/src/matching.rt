@@ -3,8 +3,9 @@
 ghost use Rattle.std.specs.Prelude.{◌≡◌, ◌↔◌, IfOk, IfSome, IsSome, IsTrue};
 ghost use Rattle.plane_core.specs.PlaneMatrices.{IsPlaneMatrix};
 ghost use Rattle.any_relation_core.specs.AnyRelations.{relation_of, rings_of as allowed};
+ghost use Rattle.any_relation_core.specs.EnvelopeRules.{AllowsBoxes};
 ghost use Rattle.any_relation_core.specs.PlaneRelations.{HoldsOf};
-ghost use Rattle.any_geometry_core.specs.AnyGeometries.{figure_of, rings_of};
+ghost use Rattle.any_geometry_core.specs.AnyGeometries.{figure_of, rings_of, box_of};
 ghost use Rattle.any_join_core.specs.Matches.{AreRelated, TakesRule};
 ghost use Rattle.any_join_core.specs.PreparedPairs.{AreOf};
 
@@ -47,7 +48,21 @@ pub fn related(
     if !takes_rings(relation, second) {
         return Ok(None);
     }
+    if !may_be_related(relation, first, second) {
+        return Ok(None);
+    }
     fitting(alloc, relation, first, second, prepared)
+}
+
+/// Whether two geometries may stand in a relation, by their envelopes.
+fn may_be_related(relation: &AnyRelation, first: &AnyGeometry, second: &AnyGeometry) -> bool
+    ensures exact { IsTrue result
+        ↔ AllowsBoxes (relation_of relation.now) (box_of first.now) (box_of second.now) }
+    ensures none_lost { AreRelated relation.now first.now second.now → IsTrue result }
+{
+    let a = first.bounds();
+    let b = second.bounds();
+    relation.allows_boxes(&a, &b)
 }
 
 /// Whether a relation takes a geometry with such rings.

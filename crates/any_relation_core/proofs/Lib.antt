@@ -1,8 +1,10 @@
 pub mod AnyLemmas
+pub mod BoxLemmas
 pub mod ClassLemmas
 pub mod DisjointLemmas
 pub mod ExtentLemmas
 pub mod FilterLemmas
+pub mod NamedBoxLemmas
 pub mod PartLemmas
 pub mod ProperLemmas
 pub mod SampleLemmas
@@ -10,3 +12,4 @@ pub mod SetLemmas
 pub mod ShareLemmas
 pub mod SlantLemmas
 pub mod SpanLemmas
+pub mod VertexLemmas

@@ -113,7 +113,7 @@ module _ (g h : Figure) (m : Matrix) (is : IsPlaneMatrix g h m) where
   in_at p wide inner outer Boundary in_g out = absurd (entry_at p wide Boundary Exterior in_g out outer)
   in_at p wide inner outer Exterior in_g out = refl
 
-  is_in : entry m Interior Exterior ≡ Empty → entry m Boundary Exterior ≡ Empty → IsIn g h
+  pub is_in : entry m Interior Exterior ≡ Empty → entry m Boundary Exterior ≡ Empty → IsIn g h
   is_in inner outer p wide in_g out = in_g (in_at p wide inner outer (part_of g p) refl out)
 
   none_out : (i : Part) → i ≢ Exterior → IsIn g h → entry m i Exterior ≡ Empty
@@ -125,7 +125,7 @@ module _ (g h : Figure) (m : Matrix) (is : IsPlaneMatrix g h m) where
   holds_at p wide inner outer Boundary in_h out = absurd (entry_at p wide Exterior Boundary out in_h outer)
   holds_at p wide inner outer Exterior in_h out = refl
 
-  holds_it : entry m Exterior Interior ≡ Empty → entry m Exterior Boundary ≡ Empty → IsIn h g
+  pub holds_it : entry m Exterior Interior ≡ Empty → entry m Exterior Boundary ≡ Empty → IsIn h g
   holds_it inner outer p wide in_h out = in_h (holds_at p wide inner outer (part_of h p) refl out)
 
   none_beyond : (j : Part) → j ≢ Exterior → IsIn h g → entry m Exterior j ≡ Empty

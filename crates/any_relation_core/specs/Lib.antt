@@ -1,4 +1,5 @@
 pub mod AnyRelations
 pub mod Classes
+pub mod EnvelopeRules
 pub mod PlaneRelations
 pub mod PlaneSets

@@ -1,9 +1,12 @@
 //! Relations that a join of any geometry may use: those that hold only for geometries that share a
 //! point.
 
+ghost use Rattle.any_relation_core.specs.EnvelopeRules.{IsRuleOf};
 ghost use Rattle.any_relation_core.specs.PlaneRelations.{ForbidsDisjoint};
 
 use crate::class::{Class, apart_matrix, classes_of};
+use crate::envelope_rule::EnvelopeRule;
+use geom_core::Shape;
 use plane_core::Rings;
 use relation_core::{AllowsDisjoint, Relation};
 
@@ -12,12 +15,17 @@ use relation_core::{AllowsDisjoint, Relation};
 pub struct AnyRelation {
     relation: Relation,
     rings: Rings,
+    boxes: EnvelopeRule,
     ghost forbids_disjoint: { ForbidsDisjoint rings relation },
+    ghost implied: { ∥ IsRuleOf relation boxes ∥₁ },
 }
 
 impl AnyRelation {
-    ghost use Rattle.std.specs.Prelude.{◌≡◌, ◌↔◌, IsOk, IfOk, OnErr};
-    ghost use Rattle.any_relation_core.specs.PlaneRelations.{HoldsForDisjoint};
+    ghost use Rattle.std.specs.Prelude.{◌≡◌, ◌↔◌, IsTrue, IsOk, IfOk, OnErr};
+    ghost use Rattle.plane_core.specs.Figures.{Figure};
+    ghost use Rattle.plane_core.specs.ProperRings.{IsGeometryOf};
+    ghost use Rattle.any_relation_core.specs.EnvelopeRules.{AllowsBoxes, IsEnvelope};
+    ghost use Rattle.any_relation_core.specs.PlaneRelations.{HoldsForDisjoint, HoldsOf};
     ghost use Rattle.any_relation_core.specs.AnyRelations.{relation_of, rings_of};
 
     /// The relation, if it holds for no two disjoint geometries with rings of this rule.
@@ -34,7 +42,12 @@ impl AnyRelation {
         if allowed {
             Err(AllowsDisjoint)
         } else {
-            let join = AnyRelation { relation, rings };
+            let boxes = EnvelopeRule::of(&relation);
+            let join = AnyRelation {
+                relation,
+                rings,
+                boxes,
+            };
             Ok(join)
         }
     }
@@ -51,6 +64,20 @@ impl AnyRelation {
         ensures { result ≡ rings_of self.now }
     {
         self.rings
+    }
+
+    /// Whether two geometries with these envelopes may stand in the relation, as far as its masks
+    /// tell: the boxes meet, and where the masks put one geometry into the other, its box lies in
+    /// the other's, edges included. `false` refuses a pair without its matrix.
+    pub fn allows_boxes(&self, first: &Shape, second: &Shape) -> bool
+        ensures exact { IsTrue result
+            ↔ AllowsBoxes (relation_of self.now) first.now second.now }
+        ensures none_lost { let rings = rings_of self.now in (g h : Figure)
+            → IsGeometryOf rings g → IsGeometryOf rings h
+            → IsEnvelope g first.now → IsEnvelope h second.now
+            → HoldsOf (relation_of self.now) g h → IsTrue result }
+    {
+        self.boxes.allows(first, second)
     }
 }
 

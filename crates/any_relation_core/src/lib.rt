@@ -3,8 +3,9 @@
 
 mod any_relation;
 mod class;
+mod envelope_rule;
 mod laws;
 
 pub use any_relation::AnyRelation;
-pub use laws::{filter_law, sets_law};
+pub use laws::{box_law, filter_law, named_box_law, sets_law};
 pub use plane_core::Rings;

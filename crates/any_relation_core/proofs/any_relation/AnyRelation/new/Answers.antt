@@ -15,4 +15,5 @@ returns-then-allowed c =
 pub invariant_of-join : goal.invariant_of-join
 invariant_of-join c = record {
   forbids_disjoint = forbids_disjoint c.args.rings c.args.relation (λ allows. absurd (cc (c.allows_apart-allowed.ensures.1 allows)));
+  implied = ∣ c.of-boxes.ensures ∣₁;
 }
