@@ -110,10 +110,11 @@ straight_at p q ps a b vs first behind last straight =
 
 -- ---- lines
 
-abbrev AreCornersOf : Position → Position → Shape → Type 0
-AreCornersOf p q s = HasCorners p.x p.y q.x q.y s ⊎ HasCorners q.x q.y p.x p.y s
+-- the lowest and the highest corner of the shape, in either order
+abbrev AreEndsEitherWay : Position → Position → Shape → Type 0
+AreEndsEitherWay p q s = HasCorners p.x p.y q.x q.y s ⊎ HasCorners q.x q.y p.x p.y s
 
-opposite_ends : (s : Shape) (a b : Vertex) → AreCornersOf (position_of a) (position_of b) s → AreOpposite s a b
+opposite_ends : (s : Shape) (a b : Vertex) → AreEndsEitherWay (position_of a) (position_of b) s → AreOpposite s a b
 opposite_ends s a b (inl h) = record { along_x = inl (sym h.first_x, sym h.second_x); along_y = inl (sym h.first_y, sym h.second_y) }
 opposite_ends s a b (inr h) = record { along_x = inr (sym h.second_x, sym h.first_x); along_y = inr (sym h.second_y, sym h.first_y) }
 
@@ -136,7 +137,7 @@ line_read s ps path l e =
     let end = headed on.back l.last [] on.second in
     let way = straight_at l.first l.last l.between front.vertex end.vertex on.front front.first on.first end.first l.straight in
     let ends = opposite_ends s front.vertex end.vertex
-    (subst (λ (q : Position). AreCornersOf q (position_of end.vertex) s) (sym front.first) (subst (λ (q : Position). AreCornersOf l.first q s) (sym end.first) l.ends)) in
+    (subst (λ (q : Position). AreEndsEitherWay q (position_of end.vertex) s) (sym front.first) (subst (λ (q : Position). AreEndsEitherWay l.first q s) (sym end.first) l.ends)) in
     line_parts s path
     (record {
       first = front.vertex;
