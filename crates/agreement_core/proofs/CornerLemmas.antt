@@ -8,22 +8,18 @@ use Rattle.geom_core.specs.declared.shape.Shape.{Shape}
 use Rattle.geom_core.specs.declared.span.Span.{Span}
 use Rattle.geom_core.specs.Cells.{line}
 use Rattle.geom_core.specs.Shapes.{dim_of, span_dim}
-use Rattle.relation_core.specs.declared.matrix.Matrix.{Matrix}
-use Rattle.relation_core.specs.Matrices.{IsMatrix}
 use Rattle.plane_core.specs.declared.vertex.Vertex.{Vertex}
 use Rattle.plane_core.specs.declared.edge.Edge.{Edge}
 use Rattle.plane_core.specs.declared.part.Part.{Part}
 use Rattle.plane_core.specs.declared.part.Part.TheVariants.{Interior, Boundary, Exterior}
 use Rattle.plane_core.specs.Points.{Point, is_on, is_below, is_at}
-use Rattle.plane_core.specs.Figures.{Figure, Points, Lines, Areas, part_of, is_odd}
-use Rattle.plane_core.specs.PlaneMatrices.{IsPlaneMatrix}
+use Rattle.plane_core.specs.Figures.{Points, Lines, Areas, part_of, is_odd}
 use Rattle.agreement_core.specs.Agreement.{IsInCell, IsCellOf, HasPartsOf}
-use Rattle.agreement_core.specs.BoxFigures.{AreEndsOf, AreOpposite, GoesRound, IsBoxFigure}
-use Rattle.agreement_core.proofs.AgreementLemmas.{agreement}
+use Rattle.agreement_core.specs.BoxFigures.{AreEndsOf, AreOpposite, GoesRound}
 use Rattle.agreement_core.proofs.BoxLemmas.{between_lines, from_line_to, level_on, upright_on, rightward_below, leftward_below, upright_below}
 use Rattle.agreement_core.proofs.FigureLemmas.{on_ring, ring_part_of, line_part_of, moved_part, one_long, two_long, ring_case, point_has_parts, line_has_parts}
 
-or_swap : (a b : Bool) → (a || b) ≡ (b || a)
+pub or_swap : (a b : Bool) → (a || b) ≡ (b || a)
 or_swap true true = refl
 or_swap true false = refl
 or_swap false true = refl
@@ -277,29 +273,3 @@ point_parts s a ends flat =
     least : (n : Span) (z : ℤ) → AreEndsOf n z z → span_dim n ≡ 0 → z ≡ n.lo
     least n z (inl e) h = e.0
     least n z (inr e) h = e.1
-
--- ---- the law of agreement
-
-has_parts : (s : Shape) (g : Figure) → IsBoxFigure s g → HasPartsOf s g
-has_parts s (Points (a ∷ [])) h = point_parts s a h.0 h.1
-has_parts s (Lines ((a ∷ b ∷ []) ∷ [])) h = segment_has_parts s a b h.0 h.1
-has_parts s (Areas ((a ∷ b ∷ c ∷ d ∷ e ∷ []) ∷ [])) h = ring_has_parts s a b c d e h.0 h.1 h.2
-has_parts s (Points []) h = elim h [ ]
-has_parts s (Points (a ∷ (_ ∷ _))) h = elim h [ ]
-has_parts s (Lines []) h = elim h [ ]
-has_parts s (Lines ([] ∷ _)) h = elim h [ ]
-has_parts s (Lines ((a ∷ []) ∷ _)) h = elim h [ ]
-has_parts s (Lines ((a ∷ (b ∷ [])) ∷ (_ ∷ _))) h = elim h [ ]
-has_parts s (Lines ((a ∷ (b ∷ (_ ∷ _))) ∷ _)) h = elim h [ ]
-has_parts s (Areas []) h = elim h [ ]
-has_parts s (Areas ([] ∷ _)) h = elim h [ ]
-has_parts s (Areas ((a ∷ []) ∷ _)) h = elim h [ ]
-has_parts s (Areas ((a ∷ (b ∷ [])) ∷ _)) h = elim h [ ]
-has_parts s (Areas ((a ∷ (b ∷ (c ∷ []))) ∷ _)) h = elim h [ ]
-has_parts s (Areas ((a ∷ (b ∷ (c ∷ (d ∷ [])))) ∷ _)) h = elim h [ ]
-has_parts s (Areas ((a ∷ (b ∷ (c ∷ (d ∷ (e ∷ []))))) ∷ (_ ∷ _))) h = elim h [ ]
-has_parts s (Areas ((a ∷ (b ∷ (c ∷ (d ∷ (e ∷ (_ ∷ _)))))) ∷ _)) h = elim h [ ]
-
-pub agreement_of_boxes : (a b : Shape) (g h : Figure) (m : Matrix) → IsBoxFigure a g → IsBoxFigure b h
-    → IsMatrix a b m → IsPlaneMatrix g h m
-agreement_of_boxes a b g h m x y is = agreement a b g h m (has_parts a g x) (has_parts b h y) is

@@ -7,3 +7,4 @@ pub mod BoxLemmas
 pub mod BoxTestLemmas
 pub mod CornerLemmas
 pub mod FigureLemmas
+pub mod StraightLemmas

@@ -8,9 +8,10 @@ ghost use Rattle.plane_core.specs.PlaneMatrices.{IsPlaneMatrix};
 ghost use Rattle.agreement_core.specs.BoxFigures.{IsBoxFigure};
 
 /// The matrix of two shapes by cells of the grid equals the matrix of their geometries by points of
-/// the plane, from whichever end or corner these begin and in whichever direction they go. So two
-/// boxes can be related by comparing the ends of their intervals.
-#[tactic(auto, using(crate::proofs::CornerLemmas::agreement_of_boxes))]
+/// the plane, with any number of vertices along a segment or the sides of a rectangle, wherever a
+/// ring begins and in whichever direction a path goes. So two boxes can be related by comparing the
+/// ends of their intervals.
+#[tactic(auto, using(crate::proofs::StraightLemmas::agreement_of_boxes))]
 pub fn agreement_law()
     ensures { (a b : Shape) (g h : Figure) (m : Matrix) → IsBoxFigure a g → IsBoxFigure b h
         → IsMatrix a b m → IsPlaneMatrix g h m }

@@ -1,1 +1,2 @@
 pub mod TextMatrices
+pub mod BothFormats

@@ -2,7 +2,9 @@
 #![tactic(auto)]
 
 mod improper;
+mod laws;
 mod texts;
 
 pub use improper::Improper;
+pub use laws::texts_law;
 pub use texts::{Related, TextFault, relate_texts};
