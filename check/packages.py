@@ -74,7 +74,7 @@ FORMAT_OPTIONS = {"--geometry", "--rings", "--scale", "--round", "--help"}
 LAYER_OPTIONS = {"--edits", "--workers", "--batch", "--cut"}
 JOIN_OPTIONS = {"--relation", "--skip", *LAYER_OPTIONS, *FORMAT_OPTIONS}
 OPTIONS = {
-    "relate": FORMAT_OPTIONS, "join": JOIN_OPTIONS, "draw": JOIN_OPTIONS, "window": FORMAT_OPTIONS,
+    "relate": FORMAT_OPTIONS, "join": {"--pairs", *JOIN_OPTIONS}, "draw": JOIN_OPTIONS, "window": FORMAT_OPTIONS,
     "near": {"--distance", "--apart", "--skip", *LAYER_OPTIONS, *FORMAT_OPTIONS},
     "nearest": {"--most", "--distance", "--skip", *LAYER_OPTIONS, *FORMAT_OPTIONS},
     "stats": FORMAT_OPTIONS, "bounds": FORMAT_OPTIONS,

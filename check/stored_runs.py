@@ -156,6 +156,10 @@ def long_runs() -> Iterator[Run]:
     yield Run("long-bounds-of-standard-input", ["bounds", "-"], stdin=left, stdout=bounds)
     join = ["join", "left.csv", "right.csv", "--relation", "touches"]
     yield Run("long-join", join, files, stdout=report)
+    alone = "".join(["left,right\n", *(f"square {n},p{n}\n" for n in range(MANY))]).encode()
+    for workers in ("1", "4"):
+        words = [*join, "--pairs", "--workers", workers]
+        yield Run(f"long-join-of-pairs-by-{workers}", words, files, stdout=alone)
     yield Run("long-join-of-standard-input", ["join", "-", *join[2:]], files, stdin=left, stdout=report)
     last = f"POINT ({10 * MANY - 6} {(MANY - 1) % 5})"
     yield Run("long-window", ["window", "right.csv", last], files, stdout=f"id\np{MANY - 1}\n".encode())

@@ -9,6 +9,8 @@ use Rattle.refine_core.specs.declared.refined.Refined.{Refined}
 use Rattle.any_geometry_core.specs.declared.geometry.AnyGeometry.{AnyGeometry}
 use Rattle.any_join_core.specs.Matches.{HasMatrix}
 use Rattle.report_core.specs.AnyMatches.{IsAnyMatch}
+use Rattle.report_core.specs.Reports.{IsHeld}
+use Rattle.join_core.proofs.JoinRunLemmas.{is_some_of}
 
 -- each match comes with the matrix of its features
 pub are_matches : (left right : Contents AnyGeometry) (matches : List (Refined Matrix)) → All (HasMatrix left right) matches
@@ -21,6 +23,12 @@ are_matches left right matches all = λ k d within.
       second_held = has.second_held;
       related = has.holds;
     }
+
+-- the layers hold the features of each match
+pub matches_held : (left right : Contents AnyGeometry) (matches : List (Refined Matrix)) → All (HasMatrix left right) matches
+    → All (λ (found : Refined Matrix). IsHeld left right found.pair) matches
+matches_held left right matches all = λ k d within.
+    let has = all k d within in (is_some_of _ has.first has.first_held, is_some_of _ has.second has.second_held)
 
 -- what holds of the rows that were skipped holds of those that stand beside the text
 pub rows_handed : (P : SkippedRows → Type 0) (rows : SkippedRows) (out : Result JoinText RunFault) → P rows → IfOk out (λ made. made.skipped ≡ rows)

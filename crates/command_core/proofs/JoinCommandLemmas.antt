@@ -22,7 +22,7 @@ use Rattle.run_core.specs.EditedLayers.{IsJoinFault}
 use Rattle.join_core.specs.Products.{ProductGives, IsProductFault}
 use Rattle.run_core.specs.Runs.{Ends}
 use Rattle.options_core.specs.declared.product.Product.{Product}
-use Rattle.options_core.specs.declared.product.Product.TheVariants.{Report, Picture}
+use Rattle.options_core.specs.declared.product.Product.TheVariants.{Report, Pairs, Picture}
 use Rattle.words_core.specs.declared.condition.Condition.{Condition}
 use Rattle.words_core.specs.declared.condition.Condition.TheVariants.{Boxes, Any}
 use Rattle.words_core.specs.declared.words.Command.{Command}
@@ -97,7 +97,7 @@ of_layers (run.NoFile i) missing is = is
 of_layers g missing is = missing
 
 -- no run gives the fault of a file that can't be opened
-report_opens : {G : Type 0} (AreListed : Layers G → List (ℕ × ℕ) → Type 0) (name : List ℕ) (is_field : G → G → List ℕ → Type 0) (files : JoinFiles G) (g : RunFault)
+report_opens : {G : Type 0} (AreListed : Layers G → List (ℕ × ℕ) → Type 0) (name : Option (List ℕ)) (is_field : G → G → List ℕ → Type 0) (files : JoinFiles G) (g : RunFault)
     → IsNoFile g → ListReportGives AreListed name is_field files (Err g) → ⊥
 report_opens {G} AreListed name is_field files g missing gives = by (Err g) gives refl
   where
@@ -108,6 +108,7 @@ report_opens {G} AreListed name is_field files g missing gives = by (Err g) give
 product_opens : {G : Type 0} (product : Product) (joining : Joining G) (files : JoinFiles G) (g : RunFault) → IsNoFile g
     → ProductGives product joining files (Err g) → ⊥
 product_opens Report joining files g missing gives = report_opens _ _ _ files g missing gives
+product_opens Pairs joining files g missing gives = report_opens _ _ _ files g missing gives
 product_opens {G} Picture joining files g missing gives = by (Err g) gives refl
   where
     by : (answer : Result (List ℕ) RunFault) → DrawGives joining files answer → answer ≡ Err g → ⊥
@@ -130,6 +131,7 @@ join_blames files f allowed blame = blame
 
 product_blames : {G : Type 0} (product : Product) (files : JoinFiles G) (f : RunFault) → IsProductFault product files f → BlamesCommand f → BlamesInput f
 product_blames Report files f allowed blame = join_blames files f allowed blame
+product_blames Pairs files f allowed blame = join_blames files f allowed blame
 product_blames Picture files run.TooManyToDraw allowed blame = blame
 product_blames Picture files f allowed blame = join_blames files f allowed blame
 
@@ -153,6 +155,7 @@ NoneOf f IsRunFault = ¬ (IsRunFault f)
 product_writes : {G : Type 0} (product : Product) (files : JoinFiles G) → NoneOf run.Write (IsProductFault product files)
     × NoneOf run.NotStored (IsProductFault product files)
 product_writes Report files = ((λ is. is.0), (λ is. is.0))
+product_writes Pairs files = ((λ is. is.0), (λ is. is.0))
 product_writes Picture files = ((λ is. is.0), (λ is. is.0))
 
 pub condition_writes : (condition : Condition) (scale : Scale) (product : Product) (skip : Option (Bor (List ℕ))) (bytes : JoinBytes)
@@ -168,7 +171,7 @@ or_stored skip IsRunFault none run.NotStored is = absurd (none is)
 or_stored skip IsRunFault none f is = is
 
 -- where a run has written something there are layers, so that memory may run out behind it
-pub report_wants : {G : Type 0} (AreListed : Layers G → List (ℕ × ℕ) → Type 0) (name : List ℕ) (is_field : G → G → List ℕ → Type 0) (files : JoinFiles G) (text : List ℕ)
+pub report_wants : {G : Type 0} (AreListed : Layers G → List (ℕ × ℕ) → Type 0) (name : Option (List ℕ)) (is_field : G → G → List ℕ → Type 0) (files : JoinFiles G) (text : List ℕ)
     → ListReportGives AreListed name is_field files (Ok text) → IsJoinFault files run.Memory
 report_wants {G} AreListed name is_field files text gives = by (Ok text) gives refl
   where
@@ -179,6 +182,7 @@ report_wants {G} AreListed name is_field files text gives = by (Ok text) gives r
 product_wants : {G : Type 0} (product : Product) (joining : Joining G) (files : JoinFiles G) (text : List ℕ) → ProductGives product joining files (Ok text)
     → IsProductFault product files run.Memory
 product_wants Report joining files text gives = report_wants _ _ _ files text gives
+product_wants Pairs joining files text gives = report_wants _ _ _ files text gives
 product_wants {G} Picture joining files text gives = by (Ok text) gives refl
   where
     by : (answer : Result (List ℕ) RunFault) → DrawGives joining files answer → answer ≡ Ok text → IsProductFault Picture files run.Memory

@@ -8,7 +8,7 @@ use Rattle.any_relation_core.specs.AnyRelations.{rings_of}
 use Rattle.format_core.specs.Formats.{Reading, ReadsAny, ReadsBox}
 use Rattle.row_core.specs.declared.read_fault.ReadFault.{ReadFault}
 use Rattle.options_core.specs.declared.product.Product.{Product}
-use Rattle.options_core.specs.declared.product.Product.TheVariants.{Report, Picture}
+use Rattle.options_core.specs.declared.product.Product.TheVariants.{Report, Pairs, Picture}
 use Rattle.run_core.specs.declared.fault.Input.TheVariants as input
 use Rattle.run_core.specs.declared.fault.RunFault.{RunFault}
 use Rattle.run_core.specs.declared.fault.RunFault.TheVariants as run
@@ -118,6 +118,7 @@ module _ {G : Type 0} (skip : Option (Bor (List ℕ))) (reads : Reading G) where
   product_untold : (product : Product) (bytes : JoinBytes) (f : RunFault) → IsProductFault product (files_read skip reads bytes) f
       → IsProductFault product (files_read skip reads (untold bytes)) f
   product_untold Report bytes f is = join_untold bytes f is
+  product_untold Pairs bytes f is = join_untold bytes f is
   product_untold Picture bytes run.TooManyToDraw is = tt
   product_untold Picture bytes f is = join_untold bytes f is
 

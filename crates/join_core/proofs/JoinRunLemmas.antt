@@ -6,7 +6,8 @@ use Rattle.filter_core.specs.Joins.{IsJoinList, StandIn}
 use Rattle.report_core.specs.Reports.{IsHeld}
 use Rattle.filter_core.proofs.NumberLemmas.{contains_at}
 
-is_some_of : {G : Type 0} (o : Option (Feature G)) (f : Feature G) → o ≡ Some f → IsSome o
+-- a feature that was found is there
+pub is_some_of : {G : Type 0} (o : Option (Feature G)) (f : Feature G) → o ≡ Some f → IsSome o
 is_some_of None f e = absurd (let bad : None ≡ Some f = e in cc)
 is_some_of (Some g) f e = refl
 

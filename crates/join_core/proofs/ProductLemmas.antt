@@ -7,7 +7,7 @@ use Rattle.run_core.specs.declared.fault.Input.{Input}
 use Rattle.run_core.specs.declared.fault.RunFault.{RunFault}
 use Rattle.run_core.specs.declared.fault.RunFault.TheVariants.{Read, TooManyToDraw}
 use Rattle.options_core.specs.declared.product.Product.{Product}
-use Rattle.options_core.specs.declared.product.Product.TheVariants.{Report, Picture}
+use Rattle.options_core.specs.declared.product.Product.TheVariants.{Report, Pairs, Picture}
 use Rattle.run_core.specs.declared.text.Text.{Text}
 use Rattle.join_core.specs.DrawRuns.{features_of, drawn, DrawGives}
 use Rattle.run_core.specs.Inputs.{BlamesInput}
@@ -26,16 +26,19 @@ pub no_product : {G T : Type 0} (product : Product) (joining : Joining G) (files
     → IsErrAnd out (λ x. x ≡ e) → (BlamesInput e → LayersGive files (Err e))
     → IfErr out (λ x. BlamesInput x → ProductGives product joining files (Err x))
 no_product Report joining files = no_report (ArePairs joining.stands) _ _ files
+no_product Pairs joining files = no_report (ArePairs joining.stands) _ _ files
 no_product Picture joining files = no_picture joining files
 
 pub is_product_fault : {T : Type 0} (product : Product) {G : Type 0} (files : JoinFiles G) (out : Result T RunFault) (e : RunFault) → IsErrAnd out (λ x. x ≡ e)
     → IsJoinFault files e → IfErr out (IsProductFault product files)
 is_product_fault Report files out e h fault = is_join_fault files out e e h refl fault
+is_product_fault Pairs files out e h fault = is_join_fault files out e e h refl fault
 is_product_fault Picture files out e h fault = is_draw_fault files out e h fault
 
 made : {G : Type 0} (product : Product) (joining : Joining G) (files : JoinFiles G) (layers : Layers G) (text : List ℕ) → LayersGive files (Ok layers)
     → IsProduct product joining layers text → ProductGives product joining files (Ok text)
 made Report joining files layers text given is = reported layers is.pairs text given is.are_pairs is.made
+made Pairs joining files layers text given is = reported layers is.pairs text given is.are_pairs is.made
 made Picture joining files layers text given is =
     subst (λ (t : List ℕ). DrawGives joining files (Ok t)) (sym is.made) (drawn layers is.pairs given is.few is.are_pairs)
 
@@ -51,15 +54,19 @@ pub product_blamed : {G T : Type 0} (product : Product) (joining : Joining G) (f
     → IfErr out (λ x. BlamesInput x → ProductGives product joining files (Err x))
 product_blamed Report joining files layers out given many late =
     last_fault (ArePairs joining.stands) _ _ files out late
+product_blamed Pairs joining files layers out given many late =
+    last_fault (ArePairs joining.stands) _ _ files out late
 product_blamed Picture joining files layers out given many late = picture_blamed joining files layers out given many late
 
 pub late_faults : {T : Type 0} (product : Product) {G : Type 0} (files : JoinFiles G) (layers : Layers G) (out : Result T RunFault) → LayersGive files (Ok layers)
     → IfErr out (IsLateProductFault product) → IfErr out (IsProductFault product files)
 late_faults Report files layers out given late = last_faults files layers given out late
+late_faults Pairs files layers out given late = last_faults files layers given out late
 late_faults Picture files layers out given late = late_draw_faults files layers given out late
 
 pub late_reads_none : (product : Product) (i : Input) (f : ReadFault) → IsLateProductFault product (Read i f) → ⊥
 late_reads_none Report i f late = late
+late_reads_none Pairs i f late = late
 late_reads_none Picture i f late = late
 
 -- the output made of the pairs that were found is the product

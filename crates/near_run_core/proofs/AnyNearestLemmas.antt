@@ -1,6 +1,6 @@
 -- The results of a search for the nearest features of any geometry of files.
 use Rattle.std.proofs.Common.{◌≡◌, ℕ, List, [], ◌∷◌, All, Contains, Result, Ok, Err, IfOk, flat_map, map, subst, refl}
-use Rattle.std.specs.Prelude.{codes}
+use Rattle.std.specs.Prelude.{Some, codes}
 use Rattle.std.specs.List.{AllZip}
 use Rattle.std.proofs.lemmas.List.Elements.{All-append, All-contains_itself, All-head, All-map, All-nil, All-same, All-tail, All-weaker}
 use Rattle.layer_core.specs.Edits.{Layers}
@@ -71,10 +71,10 @@ any_nearest_given job files layers (Err e) given is = tt
 -- the report of the matches that were found is that of their pairs
 pub any_nearest_made : (job : NearestJob) (layers : Layers AnyGeometry) (found matches : List (Refined SquaredFraction)) (text : List ℕ) → matches ≡ found
     → AreMatches job.query layers.right layers.left.features found
-    → IsReportBy (codes "distance") (IsDistanceTextBy figure_of job.scale) layers.left layers.right (map (λ r. r.pair) matches) text
+    → IsReportBy (Some (codes "distance")) (IsDistanceTextBy figure_of job.scale) layers.left layers.right (map (λ r. r.pair) matches) text
     → IsAnyNearestReport job layers text
 any_nearest_made job layers found matches text same are report = record {
   pairs = pairs_of found;
   are_listed = record { matches = found; are_matches = are; same = refl };
-  report = subst (λ (ms : List (Refined SquaredFraction)). IsReportBy (codes "distance") (IsDistanceTextBy figure_of job.scale) layers.left layers.right (pairs_of ms) text) same report;
+  report = subst (λ (ms : List (Refined SquaredFraction)). IsReportBy (Some (codes "distance")) (IsDistanceTextBy figure_of job.scale) layers.left layers.right (pairs_of ms) text) same report;
 }

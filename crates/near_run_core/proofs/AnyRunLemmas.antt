@@ -1,6 +1,6 @@
 -- The results of a join of any geometry by distance of files.
 use Rattle.std.proofs.Common.{◌≡◌, ℕ, ◌<◌, ◌^◌, ◌++◌, List, Result, Ok, Err, OnOk, IfOk, map, subst, refl, sym, ap, ◌∙◌}
-use Rattle.std.specs.Prelude.{codes, pos}
+use Rattle.std.specs.Prelude.{Some, codes, pos}
 use Rattle.layer_core.specs.Edits.{Layers}
 use Rattle.plane_core.specs.Figures.{Figure}
 use Rattle.layer_core.specs.Layers.{Contents}
@@ -58,12 +58,12 @@ any_report_given job files layers (Err e) given is = tt
 -- the report of the matches that were found is that of their pairs
 pub any_report_made : (job : NearJob) (layers : Layers GrownGeometry) (found matches : List (Refined SquaredFraction)) (text : List ℕ) → matches ≡ found
     → ArePairs (AreWanted job.nearness) layers (pairs_of found)
-    → IsReportBy (codes "distance") (IsAnyDistanceText job.scale) layers.left layers.right (map (λ r. r.pair) matches) text
+    → IsReportBy (Some (codes "distance")) (IsAnyDistanceText job.scale) layers.left layers.right (map (λ r. r.pair) matches) text
     → IsAnyNearReport job layers text
 any_report_made job layers found matches text same are report = record {
   pairs = pairs_of found;
   are_pairs = are;
-  report = subst (λ (ms : List (Refined SquaredFraction)). IsReportBy (codes "distance") (IsAnyDistanceText job.scale) layers.left layers.right (pairs_of ms) text) same report;
+  report = subst (λ (ms : List (Refined SquaredFraction)). IsReportBy (Some (codes "distance")) (IsAnyDistanceText job.scale) layers.left layers.right (pairs_of ms) text) same report;
 }
 
 -- what holds, holds on success

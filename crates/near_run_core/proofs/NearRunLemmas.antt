@@ -1,6 +1,6 @@
 -- The report of the candidates of a join of boxes by distance that are near.
 use Rattle.std.proofs.Common.{◌≡◌, ℕ, List}
-use Rattle.std.specs.Prelude.{codes}
+use Rattle.std.specs.Prelude.{Some, codes}
 use Rattle.layer_core.specs.Edits.{Layers}
 use Rattle.filter_core.specs.Joins.{StandIn, IsJoinList}
 use Rattle.refine_core.specs.Refinements.{IsPairIn, pairs_of}
@@ -35,7 +35,7 @@ module _ (c : NearFeatures) (layers : Layers GrownShape) (left_is : left_of c �
       → IsJoinList (StandIn BoxesMeet layers.left layers.right) candidates
       → IsRefinedReport (λ i j. StandIn (AreWanted (wanted c)) (left_of c) (right_of c) (i, j))
       (λ i j n. StandIn (HaveSquare n) (left_of c) (right_of c) (i, j))
-      (IsReportBy (codes "distance") (IsDistanceText shape_in job.scale) layers.left layers.right) now text
+      (IsReportBy (Some (codes "distance")) (IsDistanceText shape_in job.scale) layers.left layers.right) now text
       → IsNearReport job layers text
   near_report_made job candidates now text nearness_is now_is list is = record {
     pairs = pairs_of is.refined;

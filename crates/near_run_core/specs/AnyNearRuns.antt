@@ -1,5 +1,5 @@
 -- The results of a join of any geometry by distance of three files.
-use Rattle.std.specs.Prelude.{ℕ, List, Result, codes}
+use Rattle.std.specs.Prelude.{ℕ, List, Some, Result, codes}
 use Rattle.layer_core.specs.Edits.{Layers}
 use Rattle.plane_core.specs.declared.rings.Rings.{Rings}
 use Rattle.report_core.specs.Reports.{IsReportBy}
@@ -17,14 +17,14 @@ use Rattle.near_run_core.specs.AnyDistanceTexts.{IsAnyDistanceText}
 -- with the job's distance
 abbrev pub AnyNearGives : NearJob → JoinFiles GrownGeometry → Result (List ℕ) RunFault → Type 0
 AnyNearGives job =
-    ReportGives (AreWanted job.nearness) (codes "distance") (IsAnyDistanceText job.scale)
+    ReportGives (AreWanted job.nearness) (Some (codes "distance")) (IsAnyDistanceText job.scale)
 
 -- the report of two layers
 pub record IsAnyNearReport (job : NearJob) (layers : Layers GrownGeometry) (text : List ℕ)
     : Type 0 where
   pub pairs : List (ℕ × ℕ)
   pub are_pairs : ArePairs (AreWanted job.nearness) layers pairs
-  pub report : IsReportBy (codes "distance") (IsAnyDistanceText job.scale)
+  pub report : IsReportBy (Some (codes "distance")) (IsAnyDistanceText job.scale)
       layers.left layers.right pairs text
 
 -- a geometry that was read by this rule has improper rings

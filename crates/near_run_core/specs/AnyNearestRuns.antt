@@ -1,5 +1,5 @@
 -- The results of a search for the nearest features of any geometry of three files.
-use Rattle.std.specs.Prelude.{◌≡◌, ℕ, List, Result, codes}
+use Rattle.std.specs.Prelude.{◌≡◌, ℕ, List, Some, Result, codes}
 use Rattle.layer_core.specs.Edits.{Layers}
 use Rattle.refine_core.specs.declared.refined.Refined.{Refined}
 use Rattle.refine_core.specs.Refinements.{pairs_of}
@@ -27,7 +27,7 @@ pub record AreAnyNearestPairs (query : Query) (layers : Layers AnyGeometry) (pai
 -- it, as the job's query asks for them, with their distances; or the fault that there are no such
 -- layers
 abbrev pub AnyNearestGives : NearestJob → JoinFiles AnyGeometry → Result (List ℕ) RunFault → Type 0
-AnyNearestGives job = ListReportGives (AreAnyNearestPairs job.query) (codes "distance")
+AnyNearestGives job = ListReportGives (AreAnyNearestPairs job.query) (Some (codes "distance"))
     (IsDistanceTextBy figure_of job.scale)
 
 -- the report of two layers
@@ -35,5 +35,5 @@ pub record IsAnyNearestReport (job : NearestJob) (layers : Layers AnyGeometry) (
     : Type 0 where
   pub pairs : List (ℕ × ℕ)
   pub are_listed : AreAnyNearestPairs job.query layers pairs
-  pub report : IsReportBy (codes "distance") (IsDistanceTextBy figure_of job.scale)
+  pub report : IsReportBy (Some (codes "distance")) (IsDistanceTextBy figure_of job.scale)
       layers.left layers.right pairs text

@@ -1,5 +1,5 @@
 -- The report of a list of pairs of two layers, with their distances.
-use Rattle.std.specs.Prelude.{ℕ, List, codes}
+use Rattle.std.specs.Prelude.{ℕ, List, Some, codes}
 use Rattle.geom_core.specs.declared.shape.Shape.{Shape}
 use Rattle.number_core.specs.declared.scale.Scale.{Scale}
 use Rattle.layer_core.specs.Edits.{Layers}
@@ -11,5 +11,5 @@ pub record IsDistanceReport {G : Type 0} (AreListed : Layers G → List (ℕ × 
     (shape_of : G → Shape) (scale : Scale) (layers : Layers G) (text : List ℕ) : Type 0 where
   pub pairs : List (ℕ × ℕ)
   pub are_listed : AreListed layers pairs
-  pub report : IsReportBy (codes "distance") (IsDistanceText shape_of scale)
+  pub report : IsReportBy (Some (codes "distance")) (IsDistanceText shape_of scale)
       layers.left layers.right pairs text

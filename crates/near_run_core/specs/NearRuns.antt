@@ -1,5 +1,5 @@
 -- The results of a join by distance of three files.
-use Rattle.std.specs.Prelude.{ℕ, List, Result, codes}
+use Rattle.std.specs.Prelude.{ℕ, List, Some, Result, codes}
 use Rattle.layer_core.specs.Edits.{Layers}
 use Rattle.run_core.specs.declared.fault.RunFault.{RunFault}
 use Rattle.run_core.specs.EditedLayers.{JoinFiles}
@@ -15,7 +15,8 @@ use Rattle.near_run_core.specs.DistanceTexts.{IsDistanceText, shape_in}
 -- with the job's distance
 abbrev pub NearGives : NearJob → JoinFiles GrownShape → Result (List ℕ) RunFault → Type 0
 NearGives job =
-    ReportGives (AreWanted job.nearness) (codes "distance") (IsDistanceText shape_in job.scale)
+    ReportGives (AreWanted job.nearness) (Some (codes "distance"))
+    (IsDistanceText shape_in job.scale)
 
 -- the report of two layers
 abbrev pub IsNearReport : NearJob → Layers GrownShape → List ℕ → Type 0

@@ -1,5 +1,5 @@
 -- The results of a search for the nearest features of three files.
-use Rattle.std.specs.Prelude.{◌≡◌, ℕ, List, Result, codes}
+use Rattle.std.specs.Prelude.{◌≡◌, ℕ, List, Some, Result, codes}
 use Rattle.geom_core.specs.declared.shape.Shape.{Shape}
 use Rattle.layer_core.specs.Edits.{Layers}
 use Rattle.refine_core.specs.declared.refined.Refined.{Refined}
@@ -25,7 +25,7 @@ pub record AreNearestPairs (query : Query) (layers : Layers Shape) (pairs : List
 -- it, as the job's query asks for them, with their distances; or the fault that there are no such
 -- layers
 abbrev pub NearestGives : NearestJob → JoinFiles Shape → Result (List ℕ) RunFault → Type 0
-NearestGives job = ListReportGives (AreNearestPairs job.query) (codes "distance")
+NearestGives job = ListReportGives (AreNearestPairs job.query) (Some (codes "distance"))
     (IsDistanceText (λ s. s) job.scale)
 
 -- the report of two layers

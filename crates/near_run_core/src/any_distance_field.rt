@@ -16,17 +16,17 @@ pub struct AnyDistanceField {
 }
 
 impl<G: Figured> LastField<G, Refined<SquaredFraction>> for AnyDistanceField {
-    ghost use Rattle.std.specs.Prelude.{codes};
+    ghost use Rattle.std.specs.Prelude.{Some, codes};
     ghost use Rattle.near_run_core.specs.AnyDistanceTexts.{HasSquareBy, IsDistanceTextBy};
 
-    ghost name_of = { λ _. codes "distance" };
+    ghost name_of = { λ _. Some (codes "distance") };
 
     ghost is_match = { HasSquareBy G.figure_of };
 
     ghost is_field = { λ field. IsDistanceTextBy G.figure_of field.scale };
 
-    fn name(&self) -> &'static str {
-        "distance"
+    fn name(&self) -> Option<&'static str> {
+        Some("distance")
     }
 
     fn push_field(

@@ -16,17 +16,17 @@ pub struct DistanceField {
 }
 
 impl<G: Shaped> LastField<G, Refined<SquaredDistance>> for DistanceField {
-    ghost use Rattle.std.specs.Prelude.{codes};
+    ghost use Rattle.std.specs.Prelude.{Some, codes};
     ghost use Rattle.near_run_core.specs.DistanceTexts.{HasSquare, IsDistanceText};
 
-    ghost name_of = { λ _. codes "distance" };
+    ghost name_of = { λ _. Some (codes "distance") };
 
     ghost is_match = { HasSquare G.shape_of };
 
     ghost is_field = { λ field. IsDistanceText G.shape_of field.scale };
 
-    fn name(&self) -> &'static str {
-        "distance"
+    fn name(&self) -> Option<&'static str> {
+        Some("distance")
     }
 
     fn push_field(

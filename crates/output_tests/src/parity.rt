@@ -42,17 +42,17 @@ impl<'a> Condition for EvenSum<'a> {
 pub(crate) struct ParityField;
 
 impl LastField<AnyGeometry, Refined<u64>> for ParityField {
-    ghost use Rattle.std.specs.Prelude.{◌≡◌, codes};
+    ghost use Rattle.std.specs.Prelude.{◌≡◌, Some, codes};
     ghost use Rattle.output_tests.specs.Parities.{AreHeld};
 
-    ghost name_of = { λ _. codes "parity" };
+    ghost name_of = { λ _. Some (codes "parity") };
 
     ghost is_match = { λ left right found. AreHeld left right found.pair.0 found.pair.1 };
 
     ghost is_field = { λ _ g h field. field ≡ codes "even" };
 
-    fn name(&self) -> &'static str {
-        "parity"
+    fn name(&self) -> Option<&'static str> {
+        Some("parity")
     }
 
     fn push_field(

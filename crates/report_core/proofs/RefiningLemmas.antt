@@ -1,5 +1,5 @@
 -- The records of candidates that are decided block by block.
-use Rattle.std.proofs.Common.{◌≡◌, ℕ, ◌+◌, ◌<◌, List, [], ◌∷◌, ◌++◌, Result, All, IsOk, length, sym, ap, subst, ◌∙◌, append_assoc, append-nil}
+use Rattle.std.proofs.Common.{◌≡◌, ℕ, ◌+◌, ◌<◌, List, [], ◌∷◌, ◌++◌, Option, Result, All, IsOk, length, sym, ap, subst, ◌∙◌, append_assoc, append-nil}
 use Rattle.std.specs.Global.{Global}
 use Rattle.std.specs.List.{flat_map}
 use Rattle.std.specs.declared.alloc.AllocError.{AllocError}
@@ -101,10 +101,10 @@ module _ {A : Type 0} (stands : ℕ → ℕ → Type 0) (answers : ℕ → ℕ �
         subst (λ ps. AreRefinedRows stands answers R ps text) all written.rows
 
 -- the header alone, and then the records of all chunks, are the report of the candidates that satisfy the condition
-pub refined_report : {G A : Type 0} (stands : ℕ → ℕ → Type 0) (answers : ℕ → ℕ → A → Type 0) (name : List ℕ) (is_field : G → G → List ℕ → Type 0)
+pub refined_report : {G A : Type 0} (stands : ℕ → ℕ → Type 0) (answers : ℕ → ℕ → A → Type 0) (name : Option (List ℕ)) (is_field : G → G → List ℕ → Type 0)
     (left right : Contents G) (candidates : List (ℕ × ℕ)) (old mid new : List (Vec ℕ Global)) (header : Vec ℕ Global)
     (parts : List (Result (Vec ℕ Global) AllocError)) → old ≡ [] → mid ≡ old ++ header ∷ [] → header.items ≡ header_line name
-    → (All IsOk parts → AreRefinedRows stands answers (IsRowOf (λ (r : Refined A). r.pair) is_field left right) candidates (flat_map text_or_none parts))
+    → (All IsOk parts → AreRefinedRows stands answers (IsRowOf (λ (r : Refined A). r.pair) name is_field left right) candidates (flat_map text_or_none parts))
     → All IsOk parts → joined new ≡ joined mid ++ flat_map text_or_none parts
     → IsRefinedReport stands answers (IsReportBy name is_field left right) candidates (joined new)
 refined_report {A = A} stands answers name is_field left right candidates old mid new header parts empty grown is rows ok all =

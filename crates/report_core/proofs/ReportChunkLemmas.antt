@@ -1,5 +1,5 @@
 -- The records of all pairs are those of their chunks, one after another.
-use Rattle.std.proofs.Common.{◌≡◌, ℕ, zero, suc, ◌+◌, ◌*◌, ◌/◌, ◌%◌, ◌<◌, ◌≤◌, min, List, [], ◌∷◌, ◌++◌, Result, Ok, Err}
+use Rattle.std.proofs.Common.{◌≡◌, ℕ, zero, suc, ◌+◌, ◌*◌, ◌/◌, ◌%◌, ◌<◌, ◌≤◌, min, List, [], ◌∷◌, ◌++◌, Option, Result, Ok, Err}
 use Rattle.std.proofs.Common.{IsOk, IfOk, refl, sym, ap, subst, ◌∙◌, arith}
 use Rattle.std.proofs.Common.{map, length, length-append, get_or, take, suc-mul, add-one, zero-mul, add-mul, one-mul, div-add-mod', ⊎_elim, All}
 use Rattle.std.proofs.Common.{mul_comm, mul-le-mul_right, lt_of_mul-lt-mul_right}
@@ -150,15 +150,15 @@ chunks_added R items old mid new header line parts grown is rows all = record {
 }
 
 -- the header alone, and then the records of all chunks, are the report
-pub report_of_chunks : {G A : Type 0} (pair_of : A → ℕ × ℕ) (name : List ℕ) (is_field : G → G → List ℕ → Type 0) (left right : Contents G) (matches : List A)
+pub report_of_chunks : {G A : Type 0} (pair_of : A → ℕ × ℕ) (name : Option (List ℕ)) (is_field : G → G → List ℕ → Type 0) (left right : Contents G) (matches : List A)
     (old mid new : List (Vec ℕ Global)) (header : Vec ℕ Global)
     (parts : List (Result (Vec ℕ Global) AllocError)) → old ≡ [] → mid ≡ old ++ header ∷ [] → header.items ≡ header_line name
-    → (All IsOk parts → AreRows (IsRowOf pair_of is_field left right) matches (flat_map text_or_none parts)) → All IsOk parts
+    → (All IsOk parts → AreRows (IsRowOf pair_of name is_field left right) matches (flat_map text_or_none parts)) → All IsOk parts
     → joined new ≡ joined mid ++ flat_map text_or_none parts
     → IsReportBy name is_field left right (map pair_of matches) (joined new)
 report_of_chunks pair_of name is_field left right matches old mid new header parts none grown is rows ok all =
     report_pushed pair_of name is_field left right matches old new none
-    (chunks_added (IsRowOf pair_of is_field left right) matches old mid new header (header_line name) parts grown is (rows ok) all)
+    (chunks_added (IsRowOf pair_of name is_field left right) matches old mid new header (header_line name) parts grown is (rows ok) all)
 
 -- the value that is used for texts past the last one
 pub no_text : Result (Vec ℕ Global) AllocError

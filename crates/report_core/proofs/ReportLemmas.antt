@@ -1,6 +1,7 @@
 -- The rows of a report.
 use Rattle.std.proofs.Common.{◌≡◌, ℕ, List, [], ◌∷◌, ◌++◌, Bool, false, ◌||◌, Option, Some, None, IsSome, IsSomeAnd, Result, Ok, Err, OnOk, sym}
-use Rattle.std.proofs.Common.{codes, ap, subst, ◌∙◌, refl, ◌+◌, ◌<◌, length, get_or, map, take, append_assoc, All}
+use Rattle.std.proofs.Common.{codes, ap, subst, ◌∙◌, refl, ◌+◌, ◌-◌, ◌<◌, length, length-append, get_or, map, take, append_assoc, All, arith}
+use Rattle.std.specs.Prelude.{is_some}
 use Rattle.std.specs.Borrow.{Bor}
 use Rattle.std.specs.Option.{option_map}
 use Rattle.geom_core.specs.declared.shape.Shape.{Shape}
@@ -11,17 +12,17 @@ use Rattle.relation_core.specs.Letters.{AreLetters}
 use Rattle.relation_core.specs.Matrices.{IsMatrix, letter_of, letters_of}
 use Rattle.layer_core.specs.Layers.{Feature, Contents, ShapeIs, with_number}
 use Rattle.csv.specs.Machine.{line_feed}
-use Rattle.csv.specs.Writing.{comma, field_text, fields_text, is_blank, row_text, needs_byte, needs_quotes, default_writer}
+use Rattle.csv.specs.Writing.{comma, field_text, fields_text, is_blank, row_body, row_text, needs_byte, needs_quotes, default_writer}
 use Rattle.report_core.specs.Columns.{id_in, field_for}
 use Rattle.report_core.specs.CsvTexts.{csv_text, leading_field}
-use Rattle.report_core.specs.LastFields.{AddsField}
-use Rattle.report_core.specs.ReportRows.{AreRows, AddsRows, IsRowOf, header_line}
-use Rattle.report_core.specs.Reports.{AreLettersBy, HasLetters, IsRow, IsReportBy, header}
+use Rattle.report_core.specs.LastFields.{AddsField, AddsLast}
+use Rattle.report_core.specs.ReportRows.{AreRows, AddsRows, IsRowOf, header_line, name_in, right_part}
+use Rattle.report_core.specs.Reports.{AreLettersBy, AreMore, HasLetters, IsRow, IsReportBy, header}
 use Rattle.report_core.specs.Written.{joined}
 use Rattle.std.specs.Global.{Global}
 use Rattle.std.specs.declared.vec.Vec.{Vec}
 use Rattle.std.specs.List.{AllZip}
-use Rattle.std.proofs.lemmas.List.{append-nil, take_more, flat_map_more}
+use Rattle.std.proofs.lemmas.List.{append-nil, take_all, take_more, take-append-le, flat_map_more}
 use Rattle.std.proofs.lemmas.Slice.Zip.{all_zipped_more}
 
 -- no letter needs quotes
@@ -45,19 +46,91 @@ letters_field : (m : Matrix) → field_text default_writer (letters_of m) ≡ le
 letters_field m = let plain : needs_quotes default_writer (letters_of m) ≡ false = letters_plain m in rw plain refl
 
 appended : (a b c end : List ℕ)
-    → (a ++ comma ∷ (b ++ comma ∷ (c ++ []))) ++ end ≡ (a ++ comma ∷ []) ++ ((b ++ comma ∷ []) ++ (c ++ end))
+    → (a ++ comma ∷ (b ++ comma ∷ (c ++ []))) ++ end ≡ (a ++ comma ∷ []) ++ ((b ++ comma ∷ []) ++ ((c ++ []) ++ end))
 appended a b c end = simp append_assoc refl
 
--- the line of three fields: the first two with their commas, and the third as it is written
+two_appended : (a b end : List ℕ) → (a ++ comma ∷ (b ++ [])) ++ end ≡ (a ++ comma ∷ []) ++ (b ++ end)
+two_appended a b end = simp append_assoc refl
+
+-- a text without its last byte
+without_last : (text : List ℕ) (last : ℕ) → take (length (text ++ last ∷ []) - 1) (text ++ last ∷ []) ≡ text
+without_last text last =
+    let len : length (text ++ last ∷ []) - 1 ≡ length text = (let l = length-append text (last ∷ []) in omega arith) in
+    ap (λ n. take n (text ++ last ∷ [])) len ∙ take-append-le (length text) text (last ∷ []) (omega arith) ∙ take_all (length text) text (omega arith)
+
+-- the line of a record: the two ids with what follows them, and the fields after them as they are written
 abbrev pub line_of : List ℕ → List ℕ → List ℕ → List ℕ
 line_of first second third = first ++ (second ++ (third ++ line_feed ∷ []))
 
--- the record of three fields is their line
-row_line : (first second third : List ℕ)
-    → row_text default_writer (first ∷ second ∷ third ∷ []) ≡ line_of (leading_field first) (leading_field second) (field_text default_writer third)
+-- the record of two ids is their line, in which no comma follows the second
+pair_line : (first second : List ℕ)
+    → row_text default_writer (first ∷ second ∷ []) ≡ line_of (leading_field first) (right_part false (leading_field second)) []
 unfolding fields_text is_blank
-row_line first second third =
+pair_line first second =
+    two_appended (field_text default_writer first) (field_text default_writer second) (line_feed ∷ [])
+    ∙ ap (λ b. leading_field first ++ (b ++ line_feed ∷ [])) (sym (without_last (field_text default_writer second) comma))
+
+-- the record of two ids and a field is their line
+field_line : (first second third : List ℕ)
+    → row_text default_writer (first ∷ second ∷ third ∷ []) ≡ line_of (leading_field first) (leading_field second) (row_body default_writer (third ∷ []))
+unfolding fields_text is_blank
+field_line first second third =
     appended (field_text default_writer first) (field_text default_writer second) (field_text default_writer third) (line_feed ∷ [])
+
+-- the record of two ids and the fields after them
+row_line : {G : Type 0} (name : Option (List ℕ)) (is_field : G → G → List ℕ → Type 0) (g h : G) (more : List (List ℕ))
+    → AreMore name is_field g h more → (first second : List ℕ)
+    → row_text default_writer (first ∷ second ∷ more)
+    ≡ line_of (leading_field first) (right_part (is_some name) (leading_field second)) (row_body default_writer more)
+row_line None is_field g h more none first second =
+    subst (λ (m : List (List ℕ)). row_text default_writer (first ∷ second ∷ m)
+    ≡ line_of (leading_field first) (right_part false (leading_field second)) (row_body default_writer m)) (sym none) (pair_line first second)
+row_line (Some name) is_field g h more (field, is, same) first second =
+    subst (λ (m : List (List ℕ)). row_text default_writer (first ∷ second ∷ m)
+    ≡ line_of (leading_field first) (leading_field second) (row_body default_writer m)) (sym same) (field_line first second field)
+
+none_held : (T : Type 0) → IsSome {T = T} None → ⊥
+none_held T held = cc
+
+feature_of : {G : Type 0} (o : Option (Feature G)) → IsSome o → (f : Feature G) × (o ≡ Some f)
+feature_of {G} None held = absurd (none_held (Feature G) held)
+feature_of (Some f) held = (f, refl)
+
+-- the fields after the ids were added: the last one, or none
+record AddsMore {G : Type 0} (name : Option (List ℕ)) (is_field : G → G → List ℕ → Type 0) (left right : Contents G) (pair : ℕ × ℕ)
+    (old new : List ℕ) : Type 0 where
+  first : Feature G
+  second : Feature G
+  more : List (List ℕ)
+  first_held : with_number pair.0 left ≡ Some first
+  second_held : with_number pair.1 right ≡ Some second
+  correct : AreMore name is_field first.shape second.shape more
+  added : new ≡ old ++ row_body default_writer more
+
+more_added : {G : Type 0} (name : Option (List ℕ)) (is_field : G → G → List ℕ → Type 0) (left right : Contents G) (pair : ℕ × ℕ) (old new : List ℕ)
+    → AddsLast name is_field left right pair old new → AddsMore name is_field left right pair old new
+unfolding fields_text
+more_added None is_field left right pair old new (held, same) =
+    let first = feature_of (with_number pair.0 left) held.0 in
+    let second = feature_of (with_number pair.1 right) held.1 in
+    record {
+      first = first.0;
+      second = second.0;
+      more = [];
+      first_held = first.1;
+      second_held = second.1;
+      correct = refl;
+      added = same ∙ sym (append-nil old);
+    }
+more_added (Some name) is_field left right pair old new adds = record {
+  first = adds.first;
+  second = adds.second;
+  more = adds.field ∷ [];
+  first_held = adds.first_held;
+  second_held = adds.second_held;
+  correct = (adds.field, adds.correct, refl);
+  added = adds.added ∙ ap (λ t. old ++ t) (sym (append-nil (field_text default_writer adds.field)));
+}
 
 -- the feature whose shape was found
 pub record HasShape {G : Type 0} (o : Option (Feature G)) (shape : G) : Type 0 where
@@ -160,18 +233,18 @@ line_added : (old a b new first second third : List ℕ) → a ≡ old ++ (first
 line_added old a b new first second third p q r =
     r ∙ ap (λ x. x ++ line_feed ∷ []) (q ∙ ap (λ x. x ++ third) p) ∙ simp append_assoc refl
 
-module _ {G A : Type 0} (pair_of : A → ℕ × ℕ) (is_field : G → G → List ℕ → Type 0) (left right : Contents G) where
-  -- the row of a pair whose last field was added
-  row_of : (pair : ℕ × ℕ) (old new : List ℕ) → AddsField is_field left right pair old new → List (List ℕ)
-  row_of pair old new adds = adds.first.id ∷ adds.second.id ∷ adds.field ∷ []
+module _ {G A : Type 0} (pair_of : A → ℕ × ℕ) (name : Option (List ℕ)) (is_field : G → G → List ℕ → Type 0) (left right : Contents G) where
+  -- the row of a pair whose fields after the ids were added
+  row_of : (pair : ℕ × ℕ) (old new : List ℕ) → AddsMore name is_field left right pair old new → List (List ℕ)
+  row_of pair old new adds = adds.first.id ∷ adds.second.id ∷ adds.more
 
-  is_row_of : (pair : ℕ × ℕ) (old new : List ℕ) (adds : AddsField is_field left right pair old new)
-      → IsRow is_field left right pair (row_of pair old new adds)
+  is_row_of : (pair : ℕ × ℕ) (old new : List ℕ) (adds : AddsMore name is_field left right pair old new)
+      → IsRow name is_field left right pair (row_of pair old new adds)
   unfolding row_of
   is_row_of pair old new adds = record {
     first = adds.first;
     second = adds.second;
-    field = adds.field;
+    more = adds.more;
     first_held = adds.first_held;
     second_held = adds.second_held;
     correct = adds.correct;
@@ -179,30 +252,33 @@ module _ {G A : Type 0} (pair_of : A → ℕ × ℕ) (is_field : G → G → Lis
   }
 
   -- the line of the fields is its record
-  line_is : (pair : ℕ × ℕ) (old new x y : List ℕ) (adds : AddsField is_field left right pair old new)
+  line_is : (pair : ℕ × ℕ) (old new x y : List ℕ) (adds : AddsMore name is_field left right pair old new)
       → x ≡ field_for (id_in left pair.0) → y ≡ field_for (id_in right pair.1)
-      → line_of x y (field_text default_writer adds.field) ≡ row_text default_writer (row_of pair old new adds)
+      → line_of x (right_part (is_some name) y) (row_body default_writer adds.more) ≡ row_text default_writer (row_of pair old new adds)
   unfolding row_of
   line_is pair old new x y adds first second =
       let f = adds.first in
       let g = adds.second in
-      let third = field_text default_writer adds.field in
-      ap (λ a. line_of a y third) (first ∙ ap (λ o. field_for (option_map (λ f. f.id) o)) adds.first_held)
-      ∙ ap (λ b. line_of (leading_field f.id) b third) (second ∙ ap (λ o. field_for (option_map (λ f. f.id) o)) adds.second_held)
-      ∙ sym (row_line f.id g.id adds.field)
+      let part = right_part (is_some name) in
+      let rest = row_body default_writer adds.more in
+      ap (λ a. line_of a (part y) rest) (first ∙ ap (λ o. field_for (option_map (λ f. f.id) o)) adds.first_held)
+      ∙ ap (λ b. line_of (leading_field f.id) (part b) rest) (second ∙ ap (λ o. field_for (option_map (λ f. f.id) o)) adds.second_held)
+      ∙ sym (row_line name is_field f.shape g.shape adds.more adds.correct f.id g.id)
 
   -- the record of one match more is added, part by part
-  pub match_added : (old mid ids fields new : List ℕ) (matches : List A) (i : ℕ) (a : A) (pair : ℕ × ℕ) (x y : List ℕ)
+  pub match_added : (old mid ids fields new : List ℕ) (matches : List A) (i : ℕ) (a : A) (pair : ℕ × ℕ) (x y : List ℕ) (is_followed : Bool)
       → i < length matches → a ≡ get_or matches i a → pair ≡ pair_of a
-      → AddsRows (IsRowOf pair_of is_field left right) (take i matches) old mid
-      → x ≡ field_for (id_in left pair.0) → y ≡ field_for (id_in right pair.1)
-      → ids ≡ mid ++ (x ++ y) → AddsField is_field left right (pair_of a) ids fields → new ≡ fields ++ line_feed ∷ []
-      → AddsRows (IsRowOf pair_of is_field left right) (take (i + 1) matches) old new
-  match_added old mid ids fields new matches i a pair x y within at same so_far first second begun adds ended =
-      row_added (IsRowOf pair_of is_field left right) old mid new matches i a
+      → AddsRows (IsRowOf pair_of name is_field left right) (take i matches) old mid
+      → x ≡ field_for (id_in left pair.0) → y ≡ field_for (id_in right pair.1) → is_followed ≡ is_some name
+      → ids ≡ mid ++ (x ++ right_part is_followed y) → AddsLast name is_field left right (pair_of a) ids fields → new ≡ fields ++ line_feed ∷ []
+      → AddsRows (IsRowOf pair_of name is_field left right) (take (i + 1) matches) old new
+  match_added old mid ids fields new matches i a pair x y is_followed within at same so_far first second followed begun last ended =
+      let adds = more_added name is_field left right (pair_of a) ids fields last in
+      row_added (IsRowOf pair_of name is_field left right) old mid new matches i a
       (row_of (pair_of a) ids fields adds) within at so_far
       (is_row_of (pair_of a) ids fields adds)
-      (line_added mid ids fields new x y (field_text default_writer adds.field) begun adds.added ended
+      (line_added mid ids fields new x (right_part (is_some name) y) (row_body default_writer adds.more)
+      (subst (λ (b : Bool). ids ≡ mid ++ (x ++ right_part b y)) followed begun) adds.added ended
       ∙ ap (λ t. mid ++ t) (line_is (pair_of a) ids fields x y adds
       (subst (λ (p : ℕ × ℕ). x ≡ field_for (id_in left p.0)) same first)
       (subst (λ (p : ℕ × ℕ). y ≡ field_for (id_in right p.1)) same second)))
@@ -213,9 +289,20 @@ pub rows_alone : {A : Type 0} (R : A → List (List ℕ) → Type 0) (old text :
 rows_alone R old text items none adds =
     subst (AreRows R items) (sym (adds.added ∙ ap (λ t. t ++ adds.text) none)) adds.are_rows
 
+-- a report has a last column if the column has a name
+pub has_column : (given : Option (Bor (List ℕ))) (name : Option (List ℕ)) (is_followed : Bool) → is_followed ≡ is_some given
+    → name_in given ≡ name → is_followed ≡ is_some name
+has_column None name is_followed is same = is ∙ ap is_some same
+has_column (Some given) name is_followed is same = is ∙ ap is_some same
+
+-- the header of ids alone, added to nothing
+pub pair_header_made : (old new : List ℕ) → old ≡ [] → new ≡ old ++ codes "left,right\n" → new ≡ header_line None
+unfolding fields_text is_blank
+pair_header_made old new none added = added ∙ ap (λ t. t ++ codes "left,right\n") none
+
 -- the header, added to nothing
 pub header_made : (name old a b new : List ℕ) → old ≡ [] → a ≡ old ++ codes "left,right," → b ≡ a ++ field_text default_writer name
-    → new ≡ b ++ line_feed ∷ [] → new ≡ header_line name
+    → new ≡ b ++ line_feed ∷ [] → new ≡ header_line (Some name)
 unfolding fields_text is_blank
 header_made name old a b new none begun named ended =
     ended ∙ ap (λ t. t ++ line_feed ∷ []) (named ∙ ap (λ t. t ++ field_text default_writer name) (begun ∙ ap (λ t. t ++ codes "left,right,") none))
@@ -233,27 +320,27 @@ rows_of_pairs pair_of R [] (row ∷ rows) all = absurd all
 rows_of_pairs pair_of R (a ∷ matches) [] all = absurd all
 rows_of_pairs pair_of R (a ∷ matches) (row ∷ rows) all = (all.0, rows_of_pairs pair_of R matches rows all.1)
 
-module _ {G A : Type 0} (pair_of : A → ℕ × ℕ) (name : List ℕ) (is_field : G → G → List ℕ → Type 0) (left right : Contents G) (matches : List A) where
+module _ {G A : Type 0} (pair_of : A → ℕ × ℕ) (name : Option (List ℕ)) (is_field : G → G → List ℕ → Type 0) (left right : Contents G) (matches : List A) where
   -- the header, and the records that were added to it
   pub report_written : (old new text : List ℕ) → old ≡ header_line name
-      → AddsRows (IsRowOf pair_of is_field left right) matches old new → text ≡ new
+      → AddsRows (IsRowOf pair_of name is_field left right) matches old new → text ≡ new
       → IsReportBy name is_field left right (map pair_of matches) text
   report_written old new text same adds is = record {
     rows = adds.are_rows.rows;
-    are_rows = rows_of_pairs pair_of (IsRow is_field left right) matches adds.are_rows.rows adds.are_rows.are_rows;
+    are_rows = rows_of_pairs pair_of (IsRow name is_field left right) matches adds.are_rows.rows adds.are_rows.are_rows;
     written = is ∙ adds.added ∙ ap (λ t. t ++ adds.text) same ∙ ap (λ t. header_line name ++ t) adds.are_rows.written
         ∙ headed (row_text default_writer (header name)) (csv_text adds.are_rows.rows);
   }
 
   -- a report that was added to no text
   pub report_pushed : (old new : List (Vec ℕ Global)) → old ≡ []
-      → AddsRows (IsRowOf pair_of is_field left right) matches (joined old ++ header_line name) (joined new)
+      → AddsRows (IsRowOf pair_of name is_field left right) matches (joined old ++ header_line name) (joined new)
       → IsReportBy name is_field left right (map pair_of matches) (joined new)
   report_pushed old new none adds =
       report_written (joined old ++ header_line name) (joined new) (joined new) (ap (λ ts. joined ts ++ header_line name) none) adds refl
 
 -- a report that is the only text
-pub report_alone : {G : Type 0} (name : List ℕ) (is_field : G → G → List ℕ → Type 0) (old new : List (Vec ℕ Global)) (text : Vec ℕ Global) (left right : Contents G)
+pub report_alone : {G : Type 0} (name : Option (List ℕ)) (is_field : G → G → List ℕ → Type 0) (old new : List (Vec ℕ Global)) (text : Vec ℕ Global) (left right : Contents G)
     (pairs : List (ℕ × ℕ)) → old ≡ [] → new ≡ old ++ text ∷ []
     → IsReportBy name is_field left right pairs text.items → IsReportBy name is_field left right pairs (joined new)
 report_alone name is_field old new text left right pairs none grown is =

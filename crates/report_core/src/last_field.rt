@@ -1,17 +1,19 @@
-//! The last field of the records of a report: what it says of a pair of features.
+//! The last field of the records of a report: what it says of a pair of features besides the ids.
 
 use layer_core::{Geometry, Layer};
 use refine_core::AsPair;
 use std::alloc::AllocError;
 
-/// The last field of a report's records, for matches `M` of features of two layers of `G`.
+/// The last field of a report's records, for matches `M` of features of two layers of `G`, or that
+/// they have none.
 pub trait LastField<G: Geometry, M: AsPair> {
-    ghost use Rattle.std.specs.Prelude.{◌≡◌, ℕ, List, OnOk};
+    ghost use Rattle.std.specs.Prelude.{◌≡◌, ℕ, List, Option, OnOk};
     ghost use Rattle.layer_core.specs.Layers.{Contents};
-    ghost use Rattle.report_core.specs.LastFields.{AddsField};
+    ghost use Rattle.report_core.specs.LastFields.{AddsLast};
+    ghost use Rattle.report_core.specs.ReportRows.{name_in};
 
-    /// The name of the column, in the header.
-    ghost name_of: { Self → List ℕ };
+    /// The name of the column, in the header, or `None` if the records have the two ids alone.
+    ghost name_of: { Self → Option (List ℕ) };
 
     /// The match is a pair of features of these two layers.
     ghost is_match: { Contents G → Contents G → M → Type 0 };
@@ -19,11 +21,12 @@ pub trait LastField<G: Geometry, M: AsPair> {
     /// The fields that two geometries may have.
     ghost is_field: { Self → G → G → List ℕ → Type 0 };
 
-    /// The name of the column, in the header.
-    fn name(&self) -> &'static str
-        ensures { result.now ≡ name_of self.now };
+    /// The name of the column, in the header, if there is one.
+    fn name(&self) -> Option<&'static str>
+        ensures { name_in result ≡ name_of self.now };
 
-    /// Adds the field of a match of these two layers, in quotes if it needs them.
+    /// Adds the field of a match of these two layers, in quotes if it needs them; nothing if there
+    /// is no such column.
     ///
     /// # Errors
     /// If an allocation fails.
@@ -36,7 +39,8 @@ pub trait LastField<G: Geometry, M: AsPair> {
     ) -> Result<(), AllocError>
         requires { is_match left.now.list right.now.list found.now }
         ensures { let pair = M.pair_of found.now in
-            let adds = AddsField (is_field self.now) left.now.list right.now.list pair in
+            let adds = AddsLast (name_of self.now) (is_field self.now) left.now.list
+            right.now.list pair in
             OnOk result (adds text.old.items text.new.items) };
 
     /// Reads what [`LastField::push_field`] reads of the right layer, so that the processor fetches

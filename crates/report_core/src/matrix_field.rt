@@ -22,17 +22,18 @@ impl MatrixField {
 }
 
 impl<G: Geometry, M: Match<G>> LastField<G, M> for MatrixField {
-    ghost use Rattle.std.specs.Prelude.{codes};
+    ghost use Rattle.std.specs.Prelude.{Some, codes};
     ghost use Rattle.report_core.specs.Reports.{AreLettersBy};
 
-    ghost name_of = { λ _. codes "matrix" };
+    ghost name_of = { λ _. Some (codes "matrix") };
 
     ghost is_match = { M.is_match };
 
     ghost is_field = { λ _. AreLettersBy M.is_matrix };
 
-    fn name(&self) -> &'static str {
-        "matrix"
+    #[inline(always)]
+    fn name(&self) -> Option<&'static str> {
+        Some("matrix")
     }
 
     #[inline(always)]

@@ -90,7 +90,8 @@ where
         let is_match = F.is_match left.now.list right.now.list in
         AreMatches (C.stands condition) (C.answers condition) is_match }
     ensures rows { let condition = form.now.condition.now in let field = form.now.field.now in
-        let row = IsRowOf (λ found. found.pair) (F.is_field field) left.now.list right.now.list in
+        let row = IsRowOf (λ found. found.pair) (F.name_of field) (F.is_field field)
+        left.now.list right.now.list in
         let rows = AreRefinedRows (C.stands condition) (C.answers condition) row in
         IfOk result (λ chunks. All IsOk chunks.items
         → rows candidates.now (flat_map text_or_none chunks.items)) }
@@ -108,8 +109,9 @@ where
         requires ids { AreColumnsFor (λ pair. pair) left.now.list right.now.list chunk.now
             ids.now }
         ensures { let condition = condition.entry.now in
+            let name = F.name_of last.entry.now in
             let is_field = F.is_field last.entry.now in
-            let row = IsRowOf (λ found. found.pair) is_field left.entry.now.list
+            let row = IsRowOf (λ found. found.pair) name is_field left.entry.now.list
             right.entry.now.list in
             let rows = AreRefinedRows (C.stands condition) (C.answers condition) row in
             IfOk result (λ text. rows chunk.now text.items) }
@@ -157,8 +159,9 @@ where
         AreMatches (C.stands condition.now) (C.answers condition.now) is_match }
     requires ids { AreColumnsFor (λ pair. pair) left.now.list right.now.list candidates.now
         fields.now.ids.now }
-    ensures { let is_field = F.is_field fields.now.last.now in
-        let row = IsRowOf (λ found. found.pair) is_field left.now.list right.now.list in
+    ensures { let name = F.name_of fields.now.last.now in
+        let is_field = F.is_field fields.now.last.now in
+        let row = IsRowOf (λ found. found.pair) name is_field left.now.list right.now.list in
         let rows = AreRefinedRows (C.stands condition.now) (C.answers condition.now) row in
         IfOk result (λ text. rows candidates.now text.items) }
 {

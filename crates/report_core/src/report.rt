@@ -4,8 +4,8 @@ ghost use Rattle.std.specs.Prelude.{◌≡◌, ◌+◌, ◌<◌, ◌≤◌, ◌+
 ghost use Rattle.std.specs.List.{flat_map};
 ghost use Rattle.report_core.specs.Columns.{AreColumnsFor};
 ghost use Rattle.report_core.specs.ReportRows.{AddsRows, AreRows, IsRowOf, header_line};
-ghost use Rattle.report_core.specs.ReportRows.{text_or_none};
-ghost use Rattle.report_core.specs.Reports.{IsReport, IsReportBy};
+ghost use Rattle.report_core.specs.ReportRows.{name_in, right_part, text_or_none};
+ghost use Rattle.report_core.specs.Reports.{IsHeld, IsPairReport, IsReport, IsReportBy};
 ghost use Rattle.report_core.specs.Written.{joined};
 
 use crate::columns::Columns;
@@ -13,6 +13,7 @@ use crate::csv_fields::push_field;
 use crate::last_field::LastField;
 use crate::matches::Match;
 use crate::matrix_field::MatrixField;
+use crate::no_field::NoField;
 use layer_core::{Geometry, Layer};
 use refine_core::AsPair;
 use std::alloc::{AllocError, Global};
@@ -66,9 +67,39 @@ where
     report_by(rt, &form, left, right, matches)
 }
 
+/// The report of the pairs of these matches alone, as texts to be concatenated: a CSV record
+/// `left,right`, then one record for each match, with the ids of its features. At most `workers`
+/// threads write it, each to a text of its own.
+///
+/// # Errors
+/// If an allocation fails.
+pub fn report_pairs<R, G, M>(
+    rt: &R,
+    left: &Layer<G>,
+    right: &Layer<G>,
+    matches: &[M],
+    workers: u32,
+) -> Result<Vec<Vec<u8>>, AllocError>
+where
+    R: AllocGlobal + Threads + Sync,
+    G: Geometry + Sync,
+    M: AsPair + Sync,
+    requires { All (λ found. IsHeld left.now.list right.now.list (M.pair_of found)) matches.now }
+    ensures report { let pairs = map M.pair_of matches.now in IfOk result
+        (λ texts. IsPairReport left.now.list right.now.list pairs (joined texts.items)) }
+    ensures few { IfOk result (λ texts. length texts.items ≤ workers + 1) }
+{
+    let form = ReportForm {
+        field: &NoField,
+        workers,
+    };
+    report_by(rt, &form, left, right, matches)
+}
+
 /// The report of these matches, as texts to be concatenated: a CSV record `left,right` with the
-/// name of the last column, then one record for each match, with the ids of its features and the
-/// last field. At most as many threads write it as the form says, each to a text of its own.
+/// name of the last column, if there is one, then one record for each match, with the ids of its
+/// features and the last field. At most as many threads write it as the form says, each to a text
+/// of its own.
 ///
 /// # Errors
 /// If an allocation fails.
@@ -169,11 +200,15 @@ fn whole_text<F: LastField<G, M>, G: Geometry, M: AsPair>(
     Ok(text)
 }
 
-/// The header, with this name of the last column.
-pub(crate) fn header_text(alloc: Global, name: &str) -> Result<Vec<u8>, AllocError>
-    ensures { IfOk result (λ text. text.items ≡ header_line name.now) }
+/// The header, with this name of the last column, if there is one.
+pub(crate) fn header_text(alloc: Global, name: Option<&str>) -> Result<Vec<u8>, AllocError>
+    ensures { IfOk result (λ text. text.items ≡ header_line (name_in name.entry)) }
 {
     let mut text = Vec::new(alloc);
+    let Some(name) = name else {
+        text.extend_from_slice(b"left,right\n")?;
+        return Ok(text);
+    };
     text.extend_from_slice(b"left,right,")?;
     push_field(alloc, &mut text, name.as_bytes())?;
     text.push(b'\n')?;
@@ -195,8 +230,9 @@ where
     M: AsPair + Sync,
     requires held { All (F.is_match left.now.list right.now.list) matches.now }
     requires workers { 0 < form.now.workers }
-    ensures rows { let is_field = F.is_field form.now.field.now in
-        let row = IsRowOf M.pair_of is_field left.now.list right.now.list in
+    ensures rows { let name = F.name_of form.now.field.now in
+        let is_field = F.is_field form.now.field.now in
+        let row = IsRowOf M.pair_of name is_field left.now.list right.now.list in
         IfOk result (λ chunks. All IsOk chunks.items
         → AreRows row matches.now (flat_map text_or_none chunks.items)) }
     ensures few { IfOk result (λ chunks. length chunks.items ≤ form.now.workers) }
@@ -205,9 +241,15 @@ where
     let size = matches.len().div_ceil(form.workers as usize).max(1);
     let ids = &Columns::side_by_side(rt, left, right, matches)?;
     let last = form.field;
-    let rows = move |_start: usize, chunk: &[M]| {
-        rows_text(alloc, left, right, &Fields { ids, last }, chunk)
-    };
+    let rows = move |_start: usize, chunk: &[M]| -> Result<Vec<u8>, AllocError>
+        requires held { All (F.is_match left.now.list right.now.list) chunk.now }
+        requires ids { AreColumnsFor M.pair_of left.now.list right.now.list chunk.now ids.now }
+        ensures { let name = F.name_of last.entry.now in
+            let is_field = F.is_field last.entry.now in
+            let row = IsRowOf M.pair_of name is_field left.entry.now.list
+            right.entry.now.list in
+            IfOk result (λ text. AreRows row chunk.now text.items) }
+    { rows_text(alloc, left, right, &Fields { ids, last }, chunk) };
     thread::map_chunks(rt, alloc, matches, size, &rows)
 }
 
@@ -222,8 +264,9 @@ fn rows_text<F: LastField<G, M>, G: Geometry, M: AsPair>(
     requires held { All (F.is_match left.now.list right.now.list) matches.now }
     requires ids { AreColumnsFor M.pair_of left.now.list right.now.list matches.now
         fields.now.ids.now }
-    ensures { let is_field = F.is_field fields.now.last.now in
-        let row = IsRowOf M.pair_of is_field left.now.list right.now.list in
+    ensures { let name = F.name_of fields.now.last.now in
+        let is_field = F.is_field fields.now.last.now in
+        let row = IsRowOf M.pair_of name is_field left.now.list right.now.list in
         IfOk result (λ text. AreRows row matches.now text.items) }
 {
     let mut text = Vec::new(alloc);
@@ -242,11 +285,13 @@ pub(crate) fn push_rows<F: LastField<G, M>, G: Geometry, M: AsPair>(
     requires held { All (F.is_match left.now.list right.now.list) matches.now }
     requires ids { AreColumnsFor M.pair_of left.now.list right.now.list matches.now
         fields.now.ids.now }
-    ensures { let is_field = F.is_field fields.now.last.now in
-        let row = IsRowOf M.pair_of is_field left.now.list right.now.list in
+    ensures { let name = F.name_of fields.now.last.now in
+        let is_field = F.is_field fields.now.last.now in
+        let row = IsRowOf M.pair_of name is_field left.now.list right.now.list in
         OnOk result (AddsRows row matches.now text.old.items text.new.items) }
 {
     text.reserve(matches.len().saturating_mul(fields.ids.likely_record()))?;
+    let is_followed = fields.last.name().is_some();
     for place in 0..matches.len() {
         make_room(text, right, fields, matches, place)?;
         let found = &matches[place];
@@ -256,7 +301,7 @@ pub(crate) fn push_rows<F: LastField<G, M>, G: Geometry, M: AsPair>(
         let left_id = left_field.unwrap();
         let right_field = fields.ids.right.at(pair.1);
         let right_id = right_field.unwrap();
-        push_ids(text, left_id, right_id)?;
+        push_ids(text, left_id, right_id, is_followed)?;
         fields.last.push_field(text, found, left, right)?;
         text.push(b'\n')?;
     }
@@ -311,12 +356,24 @@ fn count_quoted<F: LastField<G, M>, G: Geometry, M: AsPair>(
     count
 }
 
-/// Adds two ids, given as CSV fields with their commas.
-fn push_ids(text: &mut Vec<u8>, left: &[u8], right: &[u8]) -> Result<(), AllocError>
-    ensures { OnOk result (text.new.items ≡ text.old.items ++ (left.now ++ right.now)) }
+/// Adds two ids, given as CSV fields with their commas. The second comma is left out if no field
+/// follows.
+#[inline(always)]
+fn push_ids(
+    text: &mut Vec<u8>,
+    left: &[u8],
+    right: &[u8],
+    is_followed: bool,
+) -> Result<(), AllocError>
+    ensures { OnOk result
+        (text.new.items ≡ text.old.items ++ (left.now ++ right_part is_followed right.now)) }
 {
     text.extend_from_slice(left)?;
-    text.extend_from_slice(right)
+    if is_followed {
+        text.extend_from_slice(right)
+    } else {
+        text.extend_from_slice(&right[..right.len().saturating_sub(1)])
+    }
 }
 
 /// Adds these texts, or returns the error if an allocation failed for one of them.

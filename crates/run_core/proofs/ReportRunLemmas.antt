@@ -1,5 +1,5 @@
 -- The report of two layers, as a text with the rows that were skipped.
-use Rattle.std.proofs.Common.{◌≡◌, ℕ, List, Result, Ok, Err, IsErrAnd, IsErrOf, IfErr, IfOk}
+use Rattle.std.proofs.Common.{◌≡◌, ℕ, List, Option, Result, Ok, Err, IsErrAnd, IsErrOf, IfErr, IfOk}
 use Rattle.std.proofs.Common.{◌↔◌, refl, subst}
 use Rattle.row_core.specs.declared.read_fault.ReadFault.TheVariants.{Io}
 use Rattle.layer_core.specs.Edits.{Layers}
@@ -14,7 +14,7 @@ use Rattle.run_core.specs.declared.text.Text.{Text}
 use Rattle.run_core.specs.Texts.{bytes_of_text}
 use Rattle.run_core.proofs.EditedLayersLemmas.{handed_on, none_blamed}
 
-module _ {G : Type 0} (AreListed : Layers G → List (ℕ × ℕ) → Type 0) (name : List ℕ) (is_field : G → G → List ℕ → Type 0) (files : JoinFiles G) where
+module _ {G : Type 0} (AreListed : Layers G → List (ℕ × ℕ) → Type 0) (name : Option (List ℕ)) (is_field : G → G → List ℕ → Type 0) (files : JoinFiles G) where
   -- without layers there is no report
   pub no_report : {T : Type 0} (out : Result T RunFault) (e : RunFault) → IsErrAnd out (λ x. x ≡ e)
       → (BlamesInput e → LayersGive files (Err e)) → IfErr out (λ x. BlamesInput x → ListReportGives AreListed name is_field files (Err x))

@@ -1,5 +1,5 @@
 -- The results of a report of three files.
-use Rattle.std.specs.Prelude.{ℕ, List, Result, Ok, Err}
+use Rattle.std.specs.Prelude.{ℕ, List, Option, Result, Ok, Err}
 use Rattle.layer_core.specs.Edits.{Layers}
 use Rattle.filter_core.specs.Joins.{IsJoinList, StandIn}
 use Rattle.report_core.specs.Reports.{IsReportBy}
@@ -11,9 +11,10 @@ abbrev pub ArePairs : {G : Type 0} → (G → G → Type 0) → Layers G → Lis
 ArePairs stands layers pairs = IsJoinList (StandIn stands layers.left layers.right) pairs
 
 -- the report of a list of pairs of the edited layers, or the fault that there are no such layers;
--- which lists two layers have, the name of the last column and the fields in it are parameters
+-- which lists two layers have, the name of the last column, if there is one, and the fields in it
+-- are parameters
 pub data ListReportGives {G : Type 0} (AreListed : Layers G → List (ℕ × ℕ) → Type 0)
-    (name : List ℕ) (is_field : G → G → List ℕ → Type 0) (files : JoinFiles G)
+    (name : Option (List ℕ)) (is_field : G → G → List ℕ → Type 0) (files : JoinFiles G)
     : Result (List ℕ) RunFault → Type 0 where
   no_layers : (f : RunFault) → LayersGive files (Err f)
       → ListReportGives AreListed name is_field files (Err f)
@@ -24,6 +25,6 @@ pub data ListReportGives {G : Type 0} (AreListed : Layers G → List (ℕ × ℕ
 
 -- the report of the edited layers' pairs, or that fault; which two geometries are a pair is a
 -- parameter
-abbrev pub ReportGives : {G : Type 0} → (G → G → Type 0) → List ℕ → (G → G → List ℕ → Type 0)
-    → JoinFiles G → Result (List ℕ) RunFault → Type 0
+abbrev pub ReportGives : {G : Type 0} → (G → G → Type 0) → Option (List ℕ)
+    → (G → G → List ℕ → Type 0) → JoinFiles G → Result (List ℕ) RunFault → Type 0
 ReportGives stands = ListReportGives (ArePairs stands)

@@ -76,8 +76,12 @@ format_rules = number_rules ++ geometry_rule ∷ rings_rule ∷ []
 abbrev pub layer_rules : List Rule
 layer_rules = positional_rule (codes "LEFT") ∷ positional_rule (codes "RIGHT") ∷ []
 
-abbrev pub edit_rules : List Rule
-edit_rules = required_rule (codes "relation") ∷ edits_rule ∷ skip_rule ∷ []
+abbrev pub relation_rules : List Rule
+relation_rules =
+    required_rule (codes "relation") ∷ flag_rule (codes "pairs") ∷ edits_rule ∷ skip_rule ∷ []
+
+abbrev pub picture_rules : List Rule
+picture_rules = required_rule (codes "relation") ∷ edits_rule ∷ skip_rule ∷ []
 
 abbrev pub distance_rules : List Rule
 distance_rules =
@@ -94,7 +98,10 @@ option_rules value =
     ∷ numeric_rule (codes "cut") (codes "2") ∷ []
 
 abbrev pub join_rules : WorkersValue → List Rule
-join_rules value = layer_rules ++ edit_rules ++ option_rules value ++ format_rules
+join_rules value = layer_rules ++ relation_rules ++ option_rules value ++ format_rules
+
+abbrev pub draw_rules : WorkersValue → List Rule
+draw_rules value = layer_rules ++ picture_rules ++ option_rules value ++ format_rules
 
 abbrev pub near_rules : WorkersValue → List Rule
 near_rules value = layer_rules ++ distance_rules ++ option_rules value ++ format_rules
@@ -121,7 +128,7 @@ subcommand_shapes value =
     ∷ subcommand_shape (codes "join") (join_rules value)
     ∷ subcommand_shape (codes "near") (near_rules value)
     ∷ subcommand_shape (codes "nearest") (nearest_rules value)
-    ∷ subcommand_shape (codes "draw") (join_rules value)
+    ∷ subcommand_shape (codes "draw") (draw_rules value)
     ∷ subcommand_shape (codes "window") window_rules
     ∷ subcommand_shape (codes "stats") layer_only_rules
     ∷ subcommand_shape (codes "bounds") layer_only_rules ∷ []

@@ -72,7 +72,8 @@ A mask of nine letters may replace the name, with one for each letter of the mat
 The report is CSV: left,right,matrix, and for each pair the two ids and the nine letters of DE-9IM,
 in three rows of three: interior, boundary and exterior of the left one, each with interior,
 boundary and exterior of the right one. F means that the two share nothing, and 0, 1 or 2 that they
-share points, lines or areas. Neither --workers nor --batch nor --cut changes the report.
+share points, lines or areas. With --pairs it is left,right and the two ids. Neither --workers nor
+--batch nor --cut changes the report.
 
 A row whose geometry can't be read is a fault of its file. With --skip FILE such rows are left out:
 FILE then lists them as CSV, side,row,id,fault, and a line on standard error counts them. FILE is

@@ -7,7 +7,8 @@ ghost use Rattle.std.specs.Prelude.{◌≡◌, [], codes, map, IfOk};
 ghost use Rattle.clap.specs.Simple.{new_shape};
 ghost use Rattle.usage_core.specs.Tables.{about_told, argument_rule, shape_told};
 ghost use Rattle.usage_core.specs.Usage.{AddsRules, HasUsage, IsBegun};
-ghost use Rattle.usage_core.specs.Usage.{bounds_about, draw_about, join_about, join_rules};
+ghost use Rattle.usage_core.specs.Usage.{bounds_about, draw_about, draw_rules};
+ghost use Rattle.usage_core.specs.Usage.{join_about, join_rules};
 ghost use Rattle.usage_core.specs.Usage.{layer_only_rules, near_about, near_rules, nearest_about};
 ghost use Rattle.usage_core.specs.Usage.{nearest_rules, program_about, program_shape};
 ghost use Rattle.usage_core.specs.Usage.{program_usage, relate_about, relate_rules, stats_about};
@@ -17,8 +18,8 @@ ghost use Rattle.usage_core.specs.declared.usage.workers.WorkersValue.{WorkersVa
 
 use crate::help;
 use arguments::{
-    Argument, JOIN_ARGUMENTS, LAYER_ARGUMENTS, NEAR_ARGUMENTS, NEAREST_ARGUMENTS, RELATE_ARGUMENTS,
-    WINDOW_ARGUMENTS, declared_argument,
+    Argument, DRAW_ARGUMENTS, JOIN_ARGUMENTS, LAYER_ARGUMENTS, NEAR_ARGUMENTS, NEAREST_ARGUMENTS,
+    RELATE_ARGUMENTS, WINDOW_ARGUMENTS, declared_argument,
 };
 use clap::Command;
 use std::alloc::{AllocError, Global};
@@ -132,14 +133,14 @@ fn nearest() -> Subcommand
 
 fn draw() -> Subcommand
     ensures shape { (value : WorkersValue)
-        → shape_told value result ≡ subcommand_shape (codes "draw") (join_rules value) }
+        → shape_told value result ≡ subcommand_shape (codes "draw") (draw_rules value) }
     ensures about { about_told result ≡ draw_about }
 {
     Subcommand {
         name: "draw",
         about: "Writes a picture of two layers and of the pairs that stand in a relation, as SVG",
         help: help::DRAW,
-        arguments: &JOIN_ARGUMENTS,
+        arguments: &DRAW_ARGUMENTS,
     }
 }
 

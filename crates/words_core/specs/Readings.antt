@@ -36,7 +36,7 @@ use Rattle.options_core.specs.Options.{workers_of, batch_of, cut_of, AreWorkers,
 use Rattle.options_core.specs.declared.options.Options.{Options}
 use Rattle.options_core.specs.declared.options.OptionFault.TheVariants as range
 use Rattle.options_core.specs.declared.product.Product.{Product}
-use Rattle.options_core.specs.declared.product.Product.TheVariants.{Report, Picture}
+use Rattle.options_core.specs.declared.product.Product.TheVariants.{Report, Pairs, Picture}
 use Rattle.plane_core.specs.declared.rings.Rings.{Rings}
 use Rattle.plane_core.specs.declared.rings.Rings.TheVariants.{Proper, EvenOdd}
 use Rattle.usage_core.specs.Usage.{usage_of}
@@ -174,7 +174,14 @@ pub record ArePathsIn (rows : List Row) (paths : LayerPaths) : Type 0 where
   pub free : is_taken paths.left.now paths.right.now (text_in paths.edits) (text_in paths.skip)
       ≡ false
 
+-- the report is one of pairs alone where `--pairs` is given, which a picture doesn't take
+abbrev pub IsProductIn : List Row → Product → Type 0
+IsProductIn rows Report = first_of (codes "pairs") rows ≢ Some (codes "true")
+IsProductIn rows Pairs = first_of (codes "pairs") rows ≡ Some (codes "true")
+IsProductIn rows Picture = ⊤
+
 pub record IsJoinIn (rows : List Row) (join : JoinRequest) : Type 0 where
+  pub product : IsProductIn rows join.product
   pub paths : ArePathsIn rows join.paths
   pub relation : IsRelationIn rows (relation_of join.condition)
   pub geometries : AreGeometriesIn rows (geometries_of join.condition)
@@ -422,6 +429,7 @@ Met = Option (Text × List Row)
 -- the name of the command for this product of a join
 abbrev pub name_of : Product → Text
 name_of Report = codes "join"
+name_of Pairs = codes "join"
 name_of Picture = codes "draw"
 
 -- the matches of the command with this name are this command

@@ -20,10 +20,9 @@ use crate::words::{Command, LayerRequest, RelateRequest, WordFault};
 use arguments::{missing, required};
 use clap::ArgMatches;
 use geometries::{read_geometries, read_scale};
-use join::read_join;
+use join::{read_draw, read_join};
 use near::read_near;
 use nearest::read_nearest;
-use options_core::Product;
 use std::alloc::Global;
 
 /// Reads the command that the matches name.
@@ -50,10 +49,10 @@ fn read_named<'a>(
 {
     match name {
         "relate" => read_relate(alloc, given),
-        "join" => read_join(alloc, given, Product::Report),
+        "join" => read_join(alloc, given),
         "near" => read_near(alloc, given),
         "nearest" => read_nearest(alloc, given),
-        "draw" => read_join(alloc, given, Product::Picture),
+        "draw" => read_draw(alloc, given),
         "window" => read_window(alloc, given),
         "stats" => read_stats(alloc, given),
         "bounds" => read_bounds(alloc, given),

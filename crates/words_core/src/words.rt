@@ -95,8 +95,8 @@ pub struct LayerRequest<'a> {
 pub enum Command<'a> {
     /// Write the matrix of two geometries.
     Relate(RelateRequest<'a>),
-    /// Write the pairs of features of two layers that stand in a relation, or a picture of the two
-    /// layers in which the features of these pairs are highlighted.
+    /// Write the pairs of features of two layers that stand in a relation, with their matrices or
+    /// alone, or a picture of the two layers in which the features of these pairs are highlighted.
     Join(JoinRequest<'a>),
     /// Write the pairs of features of two layers that are at most a distance apart, with their
     /// distances.

@@ -57,8 +57,23 @@ pub(crate) const RELATE_ARGUMENTS: [Argument; 6] = [
     RINGS,
 ];
 
-/// The arguments of `join` and of `draw`.
-pub(crate) const JOIN_ARGUMENTS: [Argument; 12] = [
+pub(crate) const JOIN_ARGUMENTS: [Argument; 13] = [
+    LEFT,
+    RIGHT,
+    RELATION,
+    PAIRS,
+    EDITS,
+    SKIP,
+    Argument::Workers,
+    BATCH,
+    CUT,
+    SCALE,
+    ROUND,
+    Argument::Geometry,
+    RINGS,
+];
+
+pub(crate) const DRAW_ARGUMENTS: [Argument; 12] = [
     LEFT,
     RIGHT,
     RELATION,
@@ -150,6 +165,11 @@ const CUT: Argument = Argument::Number {
 const RELATION: Argument = Argument::Required {
     name: "relation",
     help: "Name of a relation, or mask of nine letters",
+};
+
+const PAIRS: Argument = Argument::Flag {
+    name: "pairs",
+    help: "Write the two ids of each pair, without the matrix",
 };
 
 const DISTANCE: Argument = Argument::Required {

@@ -1,11 +1,11 @@
-//! Reading a join, of which a report or a picture is asked for.
+//! Reading a join, of which a report, with or without matrices, or a picture is asked for.
 
-ghost use Rattle.std.specs.Prelude.{◌≡◌, ◌≢◌, IfOk, IfErr, IfSome, IfNone, OnOk, OnErr};
+ghost use Rattle.std.specs.Prelude.{◌≡◌, ◌≢◌, codes, IfOk, IfErr, IfSome, IfNone, OnOk, OnErr};
 ghost use Rattle.words_core.specs.Readings.{AllowsDisjointIn, ForbidsDisjointIn, HasJoinFault};
-ghost use Rattle.words_core.specs.Readings.{IsCommandIn, IsConditionIn, IsJoinIn, NamesNoKind};
-ghost use Rattle.words_core.specs.Readings.{found_in, name_of};
+ghost use Rattle.words_core.specs.Readings.{IsCommandIn, IsConditionIn, IsJoinIn, IsProductIn};
+ghost use Rattle.words_core.specs.Readings.{NamesNoKind, found_in, name_of};
 
-use super::arguments::required;
+use super::arguments::{optional, required};
 use super::geometries::{geometry_fault, named_geometries, read_scale};
 use super::options::read_options;
 use super::paths::read_paths;
@@ -17,16 +17,34 @@ use options_core::Product;
 use relation_core::{AllowsDisjoint, Relation};
 use std::alloc::Global;
 
-pub fn read_join<'a>(
-    alloc: Global,
-    given: &ArgMatches<'a>,
-    product: Product,
-) -> Result<Command<'a>, WordFault>
-    ensures ok { IfOk result (IsCommandIn (name_of product) (found_in given.now)) }
+/// Reads a join of which a report is asked for.
+pub fn read_join<'a>(alloc: Global, given: &ArgMatches<'a>) -> Result<Command<'a>, WordFault>
+    ensures ok { IfOk result (IsCommandIn (codes "join") (found_in given.now)) }
     ensures err { IfErr result (λ f. f ≢ WordFault.Memory → HasJoinFault (found_in given.now) f) }
 {
+    let product = read_report(given);
     let join = read_request(alloc, given, product)?;
     Ok(Command::Join(join))
+}
+
+/// Reads a join of which a picture is asked for.
+pub fn read_draw<'a>(alloc: Global, given: &ArgMatches<'a>) -> Result<Command<'a>, WordFault>
+    ensures ok { IfOk result (IsCommandIn (codes "draw") (found_in given.now)) }
+    ensures err { IfErr result (λ f. f ≢ WordFault.Memory → HasJoinFault (found_in given.now) f) }
+{
+    let join = read_request(alloc, given, Product::Picture)?;
+    Ok(Command::Join(join))
+}
+
+/// The report that is asked for: that of pairs alone where `--pairs` is given.
+fn read_report(given: &ArgMatches<'_>) -> Product
+    ensures asked { IsProductIn (found_in given.now) result }
+    ensures name { codes "join" ≡ name_of result }
+{
+    match optional(given, "pairs") {
+        Some("true") => Product::Pairs,
+        _ => Product::Report,
+    }
 }
 
 /// Reads a join with this product.
@@ -38,6 +56,7 @@ fn read_request<'a>(
     given: &ArgMatches<'a>,
     product: Product,
 ) -> Result<JoinRequest<'a>, WordFault>
+    requires { IsProductIn (found_in given.now) product }
     ensures ok { IfOk result (IsJoinIn (found_in given.now)) }
     ensures product { IfOk result (λ join. join.product ≡ product) }
     ensures err { IfErr result (λ f. f ≢ WordFault.Memory → HasJoinFault (found_in given.now) f) }

@@ -10,7 +10,7 @@ returns-clause-rows g c = from_both c.map_chunks.result _ _ _ c.map_chunks.ensur
     let condition = c.args.form.now.condition.now in
     let stands = g.C.Condition.stands condition in
     let answers = g.C.Condition.answers condition in
-    let row = IsRowOf (λ found. found.pair) (g.F.LastField.is_field c.args.form.now.field.now) c.args.left.now.list c.args.right.now.list in
+    let row = IsRowOf (λ found. found.pair) (g.F.LastField.name_of c.args.form.now.field.now) (g.F.LastField.is_field c.args.form.now.field.now) c.args.left.now.list c.args.right.now.list in
     let written = AreRefinedRows stands answers row in
     chunks_joined written (none_refined stands answers row) (refined_rows_append stands answers row) c.max-size.result c.args.candidates.now chunks.items no_text
     (λ n l. let k = (each n no_text l).1 in

@@ -8,7 +8,7 @@ use Rattle.report_core.proofs.refining.refined_text.Goals as goal
 pub loop-block-init : goal.loop-block-init
 loop-block-init g c =
     let condition = c.args.condition.now in
-    let row = IsRowOf (λ found. found.pair) (g.F.LastField.is_field c.args.fields.now.last.now) c.args.left.now.list c.args.right.now.list in
+    let row = IsRowOf (λ found. found.pair) (g.F.LastField.name_of c.args.fields.now.last.now) (g.F.LastField.is_field c.args.fields.now.last.now) c.args.left.now.list c.args.right.now.list in
     record {
       can_next = search rules;
       finite = tt;
@@ -36,7 +36,7 @@ push_rows-requires-clause-ids g c =
 pub loop-block-preserved : goal.loop-block-preserved
 loop-block-preserved g c =
     let condition = c.args.condition.now in
-    let row = IsRowOf (λ found. found.pair) (g.F.LastField.is_field c.args.fields.now.last.now) c.args.left.now.list c.args.right.now.list in
+    let row = IsRowOf (λ found. found.pair) (g.F.LastField.name_of c.args.fields.now.last.now) (g.F.LastField.is_field c.args.fields.now.last.now) c.args.left.now.list c.args.right.now.list in
     record {
       can_next = search rules;
       finite = tt;
@@ -49,6 +49,6 @@ loop-block-preserved g c =
 pub returns : goal.returns
 returns g c =
     let condition = c.args.condition.now in
-    let row = IsRowOf (λ found. found.pair) (g.F.LastField.is_field c.args.fields.now.last.now) c.args.left.now.list c.args.right.now.list in
+    let row = IsRowOf (λ found. found.pair) (g.F.LastField.name_of c.args.fields.now.last.now) (g.F.LastField.is_field c.args.fields.now.last.now) c.args.left.now.list c.args.right.now.list in
     all_written (g.C.Condition.stands condition) (g.C.Condition.answers condition) row c.args.candidates.now (chunks_rest c.loop-block.block-iterator)
     c.loop-block.text.items c.loop-block.invariant.written c.in-None.ensures.steps.1.0

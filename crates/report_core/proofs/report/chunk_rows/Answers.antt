@@ -5,11 +5,11 @@ use Rattle.report_core.proofs.report.chunk_rows.Goals as goal
 
 pub returns-clause-rows : goal.returns-clause-rows
 returns-clause-rows g c = from_both c.map_chunks.result _ _ _ c.map_chunks.ensures.len c.map_chunks.ensures.each (λ chunks len each. λ ok.
-    let row = IsRowOf g.M.AsPair.pair_of (g.F.LastField.is_field c.args.form.now.field.now) c.args.left.now.list c.args.right.now.list in
+    let row = IsRowOf g.M.AsPair.pair_of (g.F.LastField.name_of c.args.form.now.field.now) (g.F.LastField.is_field c.args.form.now.field.now) c.args.left.now.list c.args.right.now.list in
     chunks_joined (AreRows row) (no_rows row) (rows_append row) c.max-size.result c.args.matches.now chunks.items no_text
     (λ n l. let k = (each n no_text l).1 in
     let rows : IfOk (get_or chunks.items n no_text) (λ text. AreRows row k.argument.now text.items) =
-    first_of (search rules, search of_calls, assumption k) in
+    first_of (search of_calls, search (of_calls, k.call), search (rules, k.call)) in
     chunk_written (AreRows row) c.args.matches.now k.argument.now c.max-size.result n _ k.argument_is (ok n no_text l) rows)
     (omega arith) (omega arith))
 
