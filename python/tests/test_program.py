@@ -138,8 +138,8 @@ OTHER_PROGRAMS = {"true": "/bin/true", "echo": "/bin/echo", "old": "echo rjoin 0
 
 
 @pytest.mark.parametrize("call", CALLS)
-@pytest.mark.parametrize("text", (":", "echo", "echo left,right", "echo TTTTTTTTT",
-                                  "echo '<svg >'"))
+@pytest.mark.parametrize("text", (":", "echo", "echo left,right,distance",
+                                  "echo TTTTTTTTT", "echo '<svg >'"))
 def test_a_program_that_answers_nothing_is_told(monkeypatch: Any, tmp_path: Path, call: str,
                                                 text: str) -> None:
     monkeypatch.setenv("RJOIN", str(script(tmp_path / "rjoin", text)))
@@ -148,19 +148,39 @@ def test_a_program_that_answers_nothing_is_told(monkeypatch: Any, tmp_path: Path
     assert caught.type is rjoin.RjoinError
 
 
-@pytest.mark.parametrize("line", ("0,0,0FFFFFFF", "0;0,0FFFFFFF2", "x,0,0FFFFFFF2", "0,0,0FFFFFFX2",
-                                  "0,0,0FFFFFFF2,", "0,0,0FFFFFFF2 0,0,0FFFFFFF2", ""))
-def test_a_line_that_no_join_writes_is_told(monkeypatch: Any, tmp_path: Path, line: str) -> None:
-    def answers(text: str) -> None:
-        path = script(tmp_path / "rjoin", f"printf 'left,right,matrix\\n{text}\\n'")
+PAIR, LETTERS = "0,0", "0,0,0FFFFFFF2"
+
+
+@pytest.mark.parametrize("header, good, line, matrix", (
+    *(("left,right,matrix", LETTERS, line, True) for line in (
+        "0,0,0FFFFFFF", "0;0,0FFFFFFF2", "x,0,0FFFFFFF2", "0,0,0FFFFFFX2", "0,0,0FFFFFFF2,",
+        "0,0,0FFFFFFF2 0,0,0FFFFFFF2", "", PAIR)),
+    *(("left,right", PAIR, line, False) for line in (
+        "0,", "0;0", "x,0", "0,x", "0,0,", "0,0 0,0", "", "0,00", "0,0\\n0", LETTERS))))
+def test_a_line_that_no_join_writes_is_told(monkeypatch: Any, tmp_path: Path, header: str,
+                                            good: str, line: str, matrix: bool) -> None:
+    geopandas = pytest.importorskip("geopandas")
+    frame = geopandas.GeoDataFrame(geometry=geopandas.GeoSeries.from_wkt(["POINT (0 0)"]))
+
+    def answered(text: str) -> int:
+        path = script(tmp_path / "rjoin", f"printf '{text}'")
         monkeypatch.setenv("RJOIN", str(path))
-    answers("0,0,0FFFFFFF2")
-    assert len(joined()) == 1
-    answers(line)
+        return len(rjoin.sjoin(frame, frame, matrix=matrix))
+    assert answered(f"{header}\\n{good}\\n") == 1
+    for text in (f"{header}\\n{line}\\n", f"{header}\\n{good}"):
+        with pytest.raises(rjoin.RjoinError, match="wrote no answer of its kind"):
+            answered(text)
+
+
+@pytest.mark.parametrize("matrix", (False, True))
+def test_a_report_of_the_other_kind_is_told(monkeypatch: Any, tmp_path: Path,
+                                            matrix: bool) -> None:
+    geopandas = pytest.importorskip("geopandas")
+    frame = geopandas.GeoDataFrame(geometry=geopandas.GeoSeries.from_wkt(["POINT (0 0)"]))
+    other = f"left,right\\n{PAIR}" if matrix else f"left,right,matrix\\n{LETTERS}"
+    monkeypatch.setenv("RJOIN", str(script(tmp_path / "rjoin", f"printf '{other}\\n'")))
     with pytest.raises(rjoin.RjoinError, match="wrote no answer of its kind"):
-        geopandas = pytest.importorskip("geopandas")
-        frame = geopandas.GeoDataFrame(geometry=geopandas.GeoSeries.from_wkt(["POINT (0 0)"]))
-        rjoin.sjoin(frame, frame, matrix=True)
+        rjoin.sjoin(frame, frame, matrix=matrix)
 
 
 @pytest.mark.parametrize("call", CALLS)

@@ -3,6 +3,7 @@ from __future__ import annotations
 
 import os
 import signal
+import socket
 import subprocess
 import sys
 import time
@@ -150,6 +151,78 @@ def test_the_scheduler_is_stopped(tools: Tools, pair: tuple[Path, Path], early: 
     line = f"{address}: no scheduler answers" if early else silent
     assert (process.returncode, errors) == (1, f"rjoin-cluster: {line}\n")
     check_left_nothing(tools)
+
+
+# How long a command whose patience is so long may take to end once a scheduler is silent: it looks
+# every 2 seconds, waits for its patience, and takes leave.
+PATIENCE, ENDS_WITHIN = 10, 15
+
+
+def test_a_port_that_never_answers_is_left_in_time(tools: Tools, pair: tuple[Path, Path]) -> None:
+    with socket.create_server(("127.0.0.1", 0)) as listener:
+        listener.settimeout(WAIT)
+        address = f"tcp://127.0.0.1:{listener.getsockname()[1]}"
+        process = started(tools, address, *pair, "--patience", str(PATIENCE))
+        with listener.accept()[0]:
+            begun = time.monotonic()
+            errors = told(process.communicate(timeout=WAIT)[1])
+            elapsed = time.monotonic() - begun
+    assert (process.returncode, errors) == (1, f"rjoin-cluster: {address}: no scheduler answers\n")
+    assert elapsed <= ENDS_WITHIN
+    check_left_nothing(tools)
+
+
+def test_a_scheduler_that_is_stopped_is_left_in_time(
+    tools: Tools, pair: tuple[Path, Path]
+) -> None:
+    """In the middle of a join, when tasks are under way."""
+    with own_processes(tools.folder) as (address, number):
+        process = started(tools, address, *pair, "--patience", str(PATIENCE))
+        wait_for(tools, "pairs-*.rows", process)
+        with stopped(number):
+            begun = time.monotonic()
+            errors = told(process.communicate(timeout=WAIT)[1])
+            elapsed = time.monotonic() - begun
+    line = f"the scheduler has not answered for {PATIENCE} seconds"
+    assert (process.returncode, errors) == (1, f"rjoin-cluster: {line}\n")
+    assert elapsed <= ENDS_WITHIN
+    check_left_nothing(tools)
+
+
+# Sends a scheduler that it has stopped more than the system keeps for a process that reads nothing.
+SENDS_MUCH = """
+import os, signal, sys, warnings
+from rjoin_cluster.cluster import remote_client
+from rjoin_cluster.faults import JoinFault
+from rjoin_cluster.request import Place
+from rjoin_cluster.watch import Watch
+
+def asked(address, number, patience):
+    with remote_client(Place(address, 1, patience)) as client:
+        os.kill(number, signal.SIGSTOP)
+        future = client.submit(len, bytes(2**25))
+        print("sent", flush=True)
+        Watch(client, patience).workers()
+
+warnings.simplefilter("ignore")
+try:
+    asked(sys.argv[1], int(sys.argv[2]), float(sys.argv[3]))
+except JoinFault as fault:
+    print(fault)
+"""
+
+
+def test_what_a_stopped_scheduler_does_not_take_is_not_waited_for(tools: Tools) -> None:
+    with own_processes(tools.folder) as (address, number):
+        command = [sys.executable, "-c", SENDS_MUCH, address, str(number), str(PATIENCE)]
+        with subprocess.Popen(command, stdout=subprocess.PIPE, text=True) as process:
+            assert process.stdout is not None and process.stdout.readline() == "sent\n"
+            with stopped(number):
+                begun = time.monotonic()
+                line = process.communicate(timeout=WAIT)[0]
+                elapsed = time.monotonic() - begun
+    assert line == f"the scheduler has not answered for {PATIENCE} seconds\n"
+    assert elapsed <= ENDS_WITHIN
 
 
 def test_the_command_is_stopped_for_a_while(tools: Tools, pair: tuple[Path, Path]) -> None:

@@ -143,6 +143,23 @@ def test_what_rjoin_has_no_words_for(tools: Tools, capfd: pytest.CaptureFixture[
         assert told(capfd.readouterr().err) == f"rjoin-cluster: {line}\n"
 
 
+def test_a_program_without_an_option(
+    tools: Tools, capfd: pytest.CaptureFixture[str]
+) -> None:
+    """It is told before a layer is read."""
+    from rjoin_cluster.command import main
+
+    old, missing = tools.folder / "old", tools.folder / "missing.csv"
+    old.write_text(f'#!/bin/sh\n[ "$2" = --help ] && exit\nexec {tools.program} "$@"\n')
+    old.chmod(0o755)
+    for words, option in ((["--pairs"], "--pairs"), (["--geometry", "any"], "--geometry")):
+        capfd.readouterr()
+        words = tools.command(missing, missing, "within", *words, "--program", str(old))
+        assert main(words) == 1
+        line = f"rjoin-cluster: {old}: this version has no {option} for join\n"
+        assert told(capfd.readouterr().err) == line
+
+
 def test_layers_without_blocks(tools: Tools, capfd: pytest.CaptureFixture[str]) -> None:
     from rjoin_cluster.command import main
 

@@ -1,6 +1,7 @@
 """Joins on a cluster have the bytes of one run of the proved program."""
 from __future__ import annotations
 
+import csv
 import json
 import random
 
@@ -142,6 +143,24 @@ def test_ids_that_need_quotes_and_blocks_that_begin_in_them(tools: Tools, block:
     left = write_layer(tools.folder / "left.csv", rows)
     right = write_layer(tools.folder / "right.csv", rows[::-1])
     tools.check_same(left, right, "intersects", "0", "--tiles", "3", "--block", block)
+
+
+@pytest.mark.parametrize("more", [[], ["--geometry", "any"]])
+@pytest.mark.parametrize("block", ["64", "33554432"])
+def test_pairs_alone(tools: Tools, block: str, more: list[str]) -> None:
+    """The bytes of one run, which are the ids of the report with matrices."""
+    rows = [(name, f"POINT ({number // 2} {number % 3})") for number, name in enumerate(IDS)]
+    left = write_layer(tools.folder / "left.csv", rows)
+    right = write_layer(tools.folder / "right.csv", [*rows[::-1], ("over", "POINT (0 0)")])
+    words = ["join", left, right, "--relation", "equals", *more]
+    alone, whole = (
+        list(csv.reader(output.decode().splitlines(keepends=True)))
+        for output in (
+            tools.check_command([*words, "--pairs"], "--tiles", "3", "--block", block),
+            tools.check_command(words, "--tiles", "3", "--block", block),
+        )
+    )
+    assert alone == [row[:2] for row in whole] and len(alone) > len(IDS)
 
 
 @pytest.mark.parametrize(

@@ -22,6 +22,7 @@ def small_parts(monkeypatch: pytest.MonkeyPatch) -> None:
     "words",
     [
         ["join", "--relation", "intersects"],
+        ["join", "--relation", "intersects", "--pairs"],
         ["near", "--distance", "3"],
         ["nearest", "--distance", "9", "--most", "4"],
     ],

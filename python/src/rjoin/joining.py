@@ -45,7 +45,10 @@ BY_EVEN_ODD = re.compile(r"rjoin: (first|second): even-odd rule for improper rin
 # The rows of a layer that have such rings: how many, and the first of them.
 IMPROPER_ROWS = re.compile(r"rjoin: (left|right|layer): even-odd rule for (\d+) features? "
                            r"with improper rings: rows? (\d+(?:, \d+)*)")
+# The last columns of reports by their types; one with PAIRS has none.
+MATRIX = {"matrix": "category"}
 DISTANCE = {"distance": "int64"}
+PAIRS = "--pairs"
 # A word of a command line has fewer bytes on Linux (MAX_ARG_STRLEN).
 MOST_WORD = 131_072
 
@@ -379,9 +382,13 @@ def options(workers: Workers) -> List[str]:
 
 
 def joined(job: Job, relation: str, workers: Workers, matrix: bool) -> Any:
-    """The pairs as a frame with the columns left and right, ids of the report, and matrix."""
-    last = {"matrix": "category"}
-    return reported(job, ["join"], ["--relation", relation, *options(workers)], last, matrix)
+    """The pairs as a frame with the columns left and right, ids of the report, and matrix if it is
+    wanted; else the program writes none.
+    """
+    words = ["--relation", relation, *options(workers)]
+    if matrix:
+        return reported(job, ["join"], words, MATRIX, wants_last=True)
+    return reported(job, ["join"], [*words, PAIRS], {}, wants_last=False)
 
 
 def within(job: Job, distance: Length, workers: Workers) -> Any:
@@ -479,7 +486,7 @@ def met(job: Job, geometry: Single) -> Any:
                 return met_by_join(job, paths[0], geometry.write(folder, job.scale))
         answer = program.run(["window", *job.words, "--", *paths, text])
         job.note_rings(answer.notes, {})
-        return ids_of(answer.output, "id", job.sources[0])
+        return ids_of(answer.output, ["id"], job.sources[0])
     return job.answer(ask)
 
 
@@ -487,18 +494,22 @@ def met_by_join(job: Job, layer: Path, window: Path) -> Any:
     """The same for a geometry that is too long for a word of a command line, from its file."""
     sides = {"left": "layer", "right": "window"}
     try:
-        answer = program.run(["join", layer, window, "--relation", "intersects", *job.words])
+        answer = program.run(["join", layer, window, "--relation", "intersects", PAIRS,
+                              *job.words])
     except program.InputFault as fault:
         row = fault.row if fault.side == "left" else None
         raise program.InputFault(sides[fault.side], row, fault.reason) from fault
     job.note_rings(answer.notes, sides)
-    return ids_of(answer.output, "left", job.sources[0])
+    return ids_of(answer.output, ("left", "right"), job.sources[0])
 
 
-def ids_of(answer: bytes, column: str, source: Source) -> Any:
-    """A column of ids of an answer, by the name `id`."""
-    table = reports.read_table(io.BytesIO(answer), {column: kind_of(source)}, [column])
-    return table[column].rename("id")
+def ids_of(answer: bytes, columns: Sequence[str], source: Source) -> Any:
+    """The first of the columns of an answer, which has ids, by the name `id`."""
+    header, first = ",".join(columns) + "\n", columns[0]
+    if not answer.startswith(header.encode()) or not answer.endswith(b"\n"):
+        raise program.wrong_answer()
+    table = reports.read_table(io.BytesIO(answer), {first: kind_of(source)}, [first])
+    return table[first].rename("id")
 
 
 def related(job: Job) -> str:

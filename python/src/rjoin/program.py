@@ -36,6 +36,7 @@ class Answer(NamedTuple):
 
 FAULT = re.compile(
     r"rjoin: (?P<side>left|right|layer|window|first|second): (?:row (?P<row>\d+): )?(?P<reason>.*)")
+UNKNOWN_OPTION = re.compile(r"error: unexpected argument '(?P<option>--[a-z-]+)' found")
 NO_MEMORY = "no memory"
 WRONG_WORDS = 2
 
@@ -106,6 +107,10 @@ def error_of(program: str, status: int, text: str) -> Exception:
     if fault and fault["reason"] != NO_MEMORY:
         row = fault["row"]
         return InputFault(fault["side"], int(row) if row else None, fault["reason"])
+    unknown = UNKNOWN_OPTION.match(line)
+    if unknown:
+        return RjoinError(f"{program} has no option {unknown['option']}, and a newer rjoin is "
+                          "needed")
     reason = line.removeprefix("rjoin: ") or f"{program} ended with status {status}"
     return ArgumentError(reason) if status == WRONG_WORDS else RjoinError(reason)
 

@@ -1,6 +1,7 @@
 """Reports of joins, read as frames: by columns where all lines are equally long, and else as CSV.
 
-Lines of letters are so if both layers have ids that are padded with zeros, as sheet writes them.
+Lines without a distance are so if both layers have ids that are padded with zeros, as sheet writes
+them.
 """
 from __future__ import annotations
 
@@ -27,8 +28,8 @@ def read(path: Path, kinds: Sequence[str], last: Dict[str, str], wants_last: boo
          widths: Tuple[Optional[int], Optional[int]]) -> Any:
     """A report as a frame with the columns left and right, and the last one if it is wanted.
 
-    kinds: the types of the ids of both layers. last: the last column's name and type. widths: the
-    digits of padded ids.
+    kinds: the types of the ids of both layers. last: the last column's name and type, or nothing in
+    a report of pairs alone. widths: the digits of padded ids.
     """
     columns = {"left": kinds[0], "right": kinds[1], **last}
     header = ",".join(columns) + "\n"
@@ -36,27 +37,28 @@ def read(path: Path, kinds: Sequence[str], last: Dict[str, str], wants_last: boo
         if file.readline() != header:
             raise program.wrong_answer()
     left, right = widths
-    if left is not None and right is not None and "matrix" in last:
+    if left is not None and right is not None and "distance" not in last:
         data = np.fromfile(path, np.uint8)[len(header):]
-        return read_padded(data, (left, right), wants_last)
+        return read_padded(data, (left, right), "matrix" in last)
     report = read_table(path, columns, list(columns)[:3 if wants_last else 2])
     if wants_last and "matrix" in last:
         report["matrix"] = report["matrix"].to_numpy(object)
     return report
 
 
-def read_padded(data: Bytes, widths: Tuple[int, int], wants_letters: bool) -> Any:
+def read_padded(data: Bytes, widths: Tuple[int, int], has_letters: bool) -> Any:
     """The lines of a report whose ids have these numbers of digits."""
     left, right = widths
-    length = left + right + COUNT + 3
-    if data.size % length:
+    behind_right = left + 1 + right
+    end = behind_right + 1 + COUNT if has_letters else behind_right
+    if data.size % (end + 1):
         raise program.wrong_answer()
-    rows = data.reshape(-1, length)
-    for place, sign in ((left, COMMA), (left + 1 + right, COMMA), (length - 1, NEWLINE)):
-        if (rows[:, place] != sign).any():
-            raise program.wrong_answer()
-    found = {"left": numbers(rows[:, :left]), "right": numbers(rows[:, left + 1:left + 1 + right])}
-    if wants_letters:
+    rows = data.reshape(-1, end + 1)
+    commas = [left, behind_right] if has_letters else [left]
+    if (rows[:, commas] != COMMA).any() or (rows[:, end] != NEWLINE).any():
+        raise program.wrong_answer()
+    found = {"left": numbers(rows[:, :left]), "right": numbers(rows[:, left + 1:behind_right])}
+    if has_letters:
         found["matrix"] = letters(rows[:, -1 - COUNT:-1])
     return pandas.DataFrame(found)
 

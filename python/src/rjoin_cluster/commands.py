@@ -1,5 +1,6 @@
-"""The commands, each of which runs the program's of the same name."""
+"""The commands, each of which runs the program's of the same name, and an option of both."""
 
 JOIN = "join"
 NEAR = "near"
 NEAREST = "nearest"
+PAIRS = "--pairs"

@@ -5,7 +5,7 @@ from dataclasses import dataclass
 from typing import Optional
 
 from rjoin_cluster.answers import read_answer
-from rjoin_cluster.commands import NEAREST
+from rjoin_cluster.commands import NEAREST, PAIRS
 from rjoin_cluster.program import HEADER, Program, RowFault
 
 MATRIX = "matrix"
@@ -32,13 +32,16 @@ class Condition:
         program.check_has(self.command)
         if program.reading.geometry is not None:
             program.check_has(self.command, "--geometry")
+        if PAIRS in self.words:
+            program.check_has(self.command, PAIRS)
         program.check_words([self.command, *self.words, *program.reading.words()])
 
 
 @dataclass(frozen=True)
 class Reach:
     """By how many units boxes are grown on each side, so that those of a pair meet, and the last
-    column of a report: its name, and the most bytes of its fields.
+    column of a report: its name, and the most bytes of its fields; no name and no bytes where a
+    report has the two ids alone.
     """
 
     growth: int
@@ -51,7 +54,8 @@ class Reach:
 
     @property
     def header(self) -> bytes:
-        return f"left,right,{self.column}\n".encode()
+        names = ["left", "right", self.column] if self.column else ["left", "right"]
+        return (",".join(names) + "\n").encode()
 
 
 def reach_of(condition: Condition, program: Program) -> Reach:
@@ -59,7 +63,7 @@ def reach_of(condition: Condition, program: Program) -> Reach:
     as the scale has, and is at most that of the condition.
     """
     if condition.distance is None:
-        return Reach(0, MATRIX, MATRIX_LETTERS)
+        return Reach(0, "", 0) if PAIRS in condition.words else Reach(0, MATRIX, MATRIX_LETTERS)
     units = units_of(condition.distance, program)
     digits = max(len(str(units)), int(program.reading.scale) + 1)
     return Reach((units + 1) // 2, DISTANCE, digits + len("."))

@@ -79,7 +79,9 @@ def write_part(job: PartJob) -> PartDone:
     """Writes a part of the report, and answers what is in it."""
     pairs = pairs_of(job)
     left = left_ids(job, pairs["rank"] // job.right_features)
-    fields = [left, table_of(pairs["right"]), table_of(pairs["last"])]
+    fields = [left, table_of(pairs["right"])]
+    if job.reach.width:
+        fields.append(table_of(pairs["last"]))
     chunks = [slice(begin, begin + ROWS_AT_ONCE) for begin in range(0, len(pairs), ROWS_AT_ONCE)]
     text = [rows_text([field[some] for field in fields]) for some in chunks]
     save_bytes(job.layout.report_part(job.number), text)

@@ -6,7 +6,7 @@ import os
 from typing import Any
 
 from rjoin_cluster import __version__
-from rjoin_cluster.commands import JOIN, NEAR, NEAREST
+from rjoin_cluster.commands import JOIN, NEAR, NEAREST, PAIRS
 
 BLOCK_BYTES = 32 * 2**20
 MOST_SECONDS = 10**6
@@ -29,6 +29,9 @@ def parser() -> argparse.ArgumentParser:
     by_relation = add_command(inner, JOIN, "joins two layers by a relation")
     by_relation.add_argument(
         "--relation", required=True, help="name of a relation, or mask of nine letters"
+    )
+    by_relation.add_argument(
+        PAIRS, action="store_true", help="only the ids of the pairs, without their matrices"
     )
     near = add_command(inner, NEAR, "joins two layers by a distance")
     near.add_argument("--apart", action="store_true", help="only pairs that share no point")

@@ -1,7 +1,7 @@
 """The reports of runs, whose ids are numbers of one width, as arrays."""
 from __future__ import annotations
 
-from typing import Protocol
+from typing import Optional, Protocol
 
 import numpy as np
 
@@ -20,8 +20,8 @@ class ReportRows(Protocol):
 
     count: int
 
-    def some(self, begin: int, end: int) -> tuple[Places, Places, Texts]:
-        """The left and right numbers and the last fields of these rows."""
+    def some(self, begin: int, end: int) -> tuple[Places, Places, Optional[Texts]]:
+        """The left and right numbers of these rows, and the last fields where they have them."""
 
 
 def rows_of(report: Bytes, reach: Reach, left_digits: int, right_digits: int) -> ReportRows:
@@ -34,29 +34,32 @@ def rows_of(report: Bytes, reach: Reach, left_digits: int, right_digits: int) ->
 
 
 class EvenRows:
-    """Rows whose last fields have one width too, as matrices have."""
+    """Rows whose last fields have one width too, as matrices have, or that have none."""
 
     def __init__(self, report: Bytes, reach: Reach, left_digits: int, right_digits: int) -> None:
         self.report = report
         self.reach = reach
         self.left_digits = left_digits
         self.right_digits = right_digits
-        self.width = left_digits + right_digits + reach.width + len(",,\n")
+        self.width = left_digits + right_digits + len(",\n")
+        if reach.width:
+            self.width += len(",") + reach.width
         self.count, more = divmod(report.size - len(reach.header), self.width)
         if more:
             raise RunFailed("a report of another form than expected")
 
-    def some(self, begin: int, end: int) -> tuple[Places, Places, Texts]:
+    def some(self, begin: int, end: int) -> tuple[Places, Places, Optional[Texts]]:
         behind_left = self.places(begin, end, self.left_digits)
         behind_right = self.places(begin, end, self.left_digits + 1 + self.right_digits)
-        lasts: Texts = np.ndarray(
-            end - begin, f"V{self.reach.width}", self.report, behind_right.start + 1, (self.width,)
-        )
         return (
             numbers_before(self.report, behind_left, self.left_digits),
             numbers_before(self.report, behind_right, self.right_digits),
-            lasts,
+            self.lasts(end - begin, behind_right.start + 1) if self.reach.width else None,
         )
+
+    def lasts(self, count: int, begin: int) -> Texts:
+        """The last fields of so many rows, the first of which begins there."""
+        return np.ndarray(count, f"V{self.reach.width}", self.report, begin, (self.width,))
 
     def places(self, begin: int, end: int, column: int) -> range:
         """Where this column of the rows lies in the report."""

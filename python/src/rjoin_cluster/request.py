@@ -6,7 +6,7 @@ import os
 from dataclasses import dataclass
 from typing import Optional
 
-from rjoin_cluster.commands import JOIN, NEAR, NEAREST
+from rjoin_cluster.commands import JOIN, NEAR, NEAREST, PAIRS
 from rjoin_cluster.conditions import Condition
 from rjoin_cluster.faults import JoinFault
 from rjoin_cluster.inputs import not_in_blocks
@@ -77,7 +77,8 @@ def request_of(words: argparse.Namespace) -> Request:
 
 def condition_of(words: argparse.Namespace) -> Condition:
     if words.command == JOIN:
-        return Condition(JOIN, (f"--relation={words.relation}",))
+        pairs = (PAIRS,) if words.pairs else ()
+        return Condition(JOIN, (f"--relation={words.relation}", *pairs))
     distance = f"--distance={words.distance}"
     if words.command == NEAR:
         apart = ("--apart",) if words.apart else ()

@@ -85,7 +85,8 @@ def pair_type(width: int, id_width: int, is_nearest: bool) -> np.dtype[Any]:
     order of a report. Nearest features are in the order of a run, have the rank of the first pair
     of their left feature, and the number of the right one beside it.
     """
-    fields = [("rank", "<i8"), ("last", f"V{width}"), ("right", f"V{id_width}")]
+    last = [("last", f"V{width}")] if width else []
+    fields = [("rank", "<i8"), *last, ("right", f"V{id_width}")]
     return np.dtype([*fields, ("number", "<i8")] if is_nearest else fields)
 
 
@@ -141,7 +142,8 @@ def own_pairs(
             pairs["number"] = numbers
         else:
             pairs["rank"] += numbers
-        pairs["last"] = lasts.take(own)
+        if lasts is not None:
+            pairs["last"] = lasts.take(own)
         if right.ids is not None:
             pairs["right"] = right.ids.take(others)
         yield pairs
