@@ -107,7 +107,7 @@ JOINS: Dict[str, Call] = {
 }
 
 
-@pytest.mark.parametrize("name", filter(stands_in_frames, TYPES))
+@pytest.mark.parametrize("name", [name for name in TYPES if stands_in_frames(name)])
 @pytest.mark.parametrize("call", JOINS)
 def test_empty_geometries_of_frames_are_refused_left_out_or_kept(name: str, call: str) -> None:
     """On the side whose rows the result has, and on the other one."""

@@ -19,8 +19,8 @@ def pair(tools: Tools) -> tuple[Path, Path]:
     return layers.write_pair(tools.folder, "rectangles", 20_000)
 
 
-# Holds each join that begins once a tile has its pairs, so that no interrupt comes too late, however
-# busy the machine is: the shell waits until somebody opens the pipe for writing.
+# Holds each join that begins once a tile has its pairs, so that no interrupt comes too late,
+# however busy the machine is: the shell waits until somebody opens the pipe for writing.
 HELD = """#!/bin/sh
 for pairs in {folder}/rjoin-cluster-*/pairs-*.rows; do
     if [ "$1" = join ] && [ -e "$pairs" ]; then read -r _ <{folder}/held; break; fi
