@@ -1,6 +1,7 @@
 -- Deciding two features by their geometries.
-use Rattle.std.proofs.Common.{◌≡◌, ◌↔◌, refl, subst}
-use Rattle.std.specs.Prelude.{ℕ, Option, Some, None, Result, Ok, Err, IfOk, IfSome, IsSome, option_map}
+use Rattle.std.proofs.Common.{◌≡◌, ◌↔◌, ◌∙◌, refl, sym, subst}
+use Rattle.std.specs.Prelude.{⊤, Bool, true, false, IsTrue, ℕ, Option, Some, None, Result, Ok, Err, IfOk, IfSome, IsSome, option_map}
+use Rattle.std.specs.Bool.{then_some}
 use Rattle.std.specs.Borrow.{Bor}
 use Rattle.std.specs.declared.alloc.AllocError.{AllocError}
 use Rattle.relation_core.specs.declared.matrix.Matrix.{Matrix}
@@ -38,3 +39,31 @@ module _ (relation : AnyRelation) (left right : Contents AnyGeometry) (i j : ℕ
       decided_as f s is_f is_s r
       (subst (λ (x : AnyGeometry). IfOk r (λ found. IsSome found ↔ AreRelated relation x s.shape)) is_g (subst (λ (y : AnyGeometry). IfOk r (λ found. IsSome found ↔ AreRelated relation g.now y)) is_h holds))
       (subst (λ (x : AnyGeometry). IfOk r (λ found. IfSome found (λ m. HaveMatrix m x s.shape))) is_g (subst (λ (y : AnyGeometry). IfOk r (λ found. IfSome found (λ m. HaveMatrix m g.now y))) is_h matrix))
+
+  -- whether two features stand in the relation is told by their geometries
+  pub stand_as : (f s : Feature AnyGeometry) (g h : Bor AnyGeometry) → with_number i left ≡ Some f → with_number j right ≡ Some s → ShapeIs (Some g) (with_number i left) → ShapeIs (Some h) (with_number j right)
+      → AreRelated relation g.now h.now ↔ StandIn (AreRelated relation) left right (i, j)
+  stand_as f s g h is_f is_s found_g found_h =
+      let is_g = shape_is left i f g is_f found_g in
+      let is_h = shape_is right j s h is_s found_h in (
+        λ related. record {
+          first = f;
+          second = s;
+          first_held = is_f;
+          second_held = is_s;
+          holds = subst (λ (x : AnyGeometry). AreRelated relation x s.shape) is_g (subst (λ (y : AnyGeometry). AreRelated relation g.now y) is_h related);
+        },
+        λ both. subst (λ (x : AnyGeometry). AreRelated relation x h.now) (one_found left i both.first f both.first_held is_f ∙ sym is_g)
+            (subst (λ (y : AnyGeometry). AreRelated relation both.first.shape y) (one_found right j both.second s both.second_held is_s ∙ sym is_h) both.holds),
+      )
+
+  -- so they are decided with no answer besides
+  pub decided_alone : {A : Type 0} (f s : Feature AnyGeometry) (g h : Bor AnyGeometry) → with_number i left ≡ Some f → with_number j right ≡ Some s → ShapeIs (Some g) (with_number i left) → ShapeIs (Some h) (with_number j right)
+      → (answer : Bool) (x : A) (found : Option A) → found ≡ then_some answer x → IsTrue answer ↔ AreRelated relation g.now h.now
+      → IsDecision (λ i j. StandIn (AreRelated relation) left right (i, j)) (λ i j m. ⊤) (i, j) found
+  decided_alone {A = A} f s g h is_f is_s found_g found_h true x found is told =
+      subst (λ (r : Option A). IsDecision (λ i j. StandIn (AreRelated relation) left right (i, j)) (λ i j m. ⊤) (i, j) r) (sym is)
+      ((stand_as f s g h is_f is_s found_g found_h).0 (told.0 refl), tt)
+  decided_alone {A = A} f s g h is_f is_s found_g found_h false x found is told =
+      subst (λ (r : Option A). IsDecision (λ i j. StandIn (AreRelated relation) left right (i, j)) (λ i j m. ⊤) (i, j) r) (sym is)
+      (λ both. let yes = told.1 ((stand_as f s g h is_f is_s found_g found_h).1 both) in absurd cc)

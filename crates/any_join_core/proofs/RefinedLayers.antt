@@ -37,7 +37,7 @@ module _ (c : RelatedFeatures) (relation : AnyRelation) (left right : Contents A
   near_pairs pairs now now_is list = each_listed (near c) now (near_list pairs now now_is list)
 
   -- those that stand in the relation are its join list
-  pub related_list : (pairs now : List (ℕ × ℕ)) (matches : List (Refined Matrix)) → now ≡ pairs → IsJoinList (StandIn BoxesMeet left right) pairs
+  pub related_list : {A : Type 0} (pairs now : List (ℕ × ℕ)) (matches : List (Refined A)) → now ≡ pairs → IsJoinList (StandIn BoxesMeet left right) pairs
       → (HoldsEachOnce (near c) now → HoldsEachOnce (stands c) (pairs_of matches))
       → ((test : ℕ × ℕ → ℕ × ℕ → Bool) → IsInOrder test now → IsInOrder test (pairs_of matches))
       → IsJoinList (StandIn (AreRelated relation) left right) (pairs_of matches)

@@ -10,6 +10,7 @@ use Rattle.arrangement_core.specs.contracts.prepared.PreparedGeometry as Prepare
 use Rattle.any_geometry_core.specs.contracts.geometry.AnyGeometry as AnyGeometry
 use Rattle.prepared_core.proofs.SyncLemmas.{layer_sync}
 use Rattle.any_join_core.specs.contracts.features.RelatedFeatures as RelatedFeatures
+use Rattle.any_join_core.specs.contracts.pairs.RelatedPairs as RelatedPairs
 
 tree_sync : IsSync RTree.the_row
 tree_sync = search (sendable, crosses, knot.crosses) depth 60 fits 20000
@@ -25,3 +26,6 @@ geometry_sync = search (sendable, crosses) depth 60 fits 20000
 
 pub related_sync : (κ : NamedLft) → IsSync (RelatedFeatures.the_row κ)
 related_sync κ = search (sendable, crosses, layer_sync, prepared_sync, geometry_sync) depth 60 fits 20000
+
+pub pairs_sync : (κ : NamedLft) → IsSync (RelatedPairs.the_row κ)
+pairs_sync κ = search (sendable, crosses, layer_sync, prepared_sync, geometry_sync) depth 60 fits 20000

@@ -1,4 +1,5 @@
 pub mod Conditions
+pub mod Limits
 pub mod Matches
 pub mod PreparedPairs
 pub mod StandingNear

@@ -10,9 +10,9 @@ use std::alloc::{AllocError, Global};
 /// Which features of two layers stand in a relation.
 #[derive(Drop)]
 pub struct RelatedFeatures<'a> {
-    left: PreparedLayer<'a>,
-    right: PreparedLayer<'a>,
-    relation: &'a AnyRelation,
+    pub(crate) left: PreparedLayer<'a>,
+    pub(crate) right: PreparedLayer<'a>,
+    pub(crate) relation: &'a AnyRelation,
 }
 
 impl<'a> RelatedFeatures<'a> {

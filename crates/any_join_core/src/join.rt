@@ -19,6 +19,7 @@ use often_core::Side;
 use options_core::Options;
 use parallel_core::JoinFault;
 use refine_core::refine_pairs;
+use relation_core::Matrix;
 use std::sync::Wait;
 use std::thread::Threads;
 
@@ -38,7 +39,7 @@ pub fn join_any<R: AllocGlobal + Threads + Wait + Sync>(
     right: &Layer<AnyGeometry>,
     relation: &AnyRelation,
     options: &Options,
-) -> Result<AnyOutcome, JoinFault>
+) -> Result<AnyOutcome<Matrix>, JoinFault>
     ensures pairs { let related = StandIn (AreRelated relation.now) left.now.list right.now.list in
         IfOk result (λ outcome. IsJoinList related (pairs_of outcome.matches.items)) }
     ensures matrices { let matrix = HasMatrix left.now.list right.now.list in

@@ -4,14 +4,19 @@
 
 mod features;
 mod join;
+mod join_pairs;
+mod limits;
 mod matching;
 mod outcome;
+mod pairs;
 mod prepared;
 
 pub use any_geometry_core::AnyGeometry;
 pub use features::RelatedFeatures;
 pub use join::join_any;
-pub use matching::{PreparedPair, matrix_of, related};
+pub use join_pairs::join_any_pairs;
+pub use matching::{PreparedPair, are_related, matrix_of, related};
 pub use often_core::Side;
 pub use outcome::AnyOutcome;
+pub use pairs::RelatedPairs;
 pub use prepared::{ForMatrices, PreparedLayer};

@@ -1,7 +1,10 @@
-//! The matrix of two geometries that stand in a relation.
+//! Whether two geometries stand in a relation, and the matrix of those that do.
 
 ghost use Rattle.std.specs.Prelude.{◌≡◌, ◌↔◌, IfOk, IfSome, IsSome, IsTrue};
+ghost use Rattle.relation_core.specs.Relations.{masks};
+ghost use Rattle.plane_core.specs.Figures.{dim_of};
 ghost use Rattle.plane_core.specs.PlaneMatrices.{IsPlaneMatrix};
+ghost use Rattle.arrangement_core.specs.Fits.{FitMatrix, IsUpperBound};
 ghost use Rattle.any_relation_core.specs.AnyRelations.{relation_of, rings_of as allowed};
 ghost use Rattle.any_relation_core.specs.EnvelopeRules.{AllowsBoxes};
 ghost use Rattle.any_relation_core.specs.PlaneRelations.{HoldsOf};
@@ -9,13 +12,17 @@ ghost use Rattle.any_geometry_core.specs.AnyGeometries.{figure_of, rings_of, box
 ghost use Rattle.any_join_core.specs.Matches.{AreRelated, TakesRule};
 ghost use Rattle.any_join_core.specs.PreparedPairs.{AreOf};
 
+use crate::limits::greatest;
 use agreement_core::relate_boxes;
 use any_geometry_core::AnyGeometry;
 use any_relation_core::{AnyRelation, Rings};
-use arrangement_core::{PreparedGeometry, relate, relate_prepared, relate_within};
+use arrangement_core::{
+    PreparedGeometry, Question, fits_prepared, fits_within, fitting_prepared, fitting_within,
+    relate, relate_prepared,
+};
 use layer_core::Geometry as HasBounds;
 use plane_core::Geometry;
-use relation_core::Matrix;
+use relation_core::{Matrix, Relation};
 use std::alloc::{AllocError, Global};
 
 /// The prepared forms of two geometries, where there are any.
@@ -25,7 +32,8 @@ pub struct PreparedPair<'a> {
     pub second: Option<&'a PreparedGeometry<'a>>,
 }
 
-/// The matrix of two geometries, if they stand in the relation, which takes their rings.
+/// The matrix of two geometries, if they stand in the relation, which takes their rings. It is
+/// computed only until they are known not to.
 ///
 /// # Errors
 /// Out of memory.
@@ -54,6 +62,34 @@ pub fn related(
     fitting(alloc, relation, first, second, prepared)
 }
 
+/// Whether two geometries stand in the relation, which takes their rings. Their matrix is computed
+/// only until this is known.
+///
+/// # Errors
+/// Out of memory.
+pub fn are_related(
+    alloc: Global,
+    relation: &AnyRelation,
+    first: &AnyGeometry,
+    second: &AnyGeometry,
+    prepared: PreparedPair,
+) -> Result<bool, AllocError>
+    requires { AreOf (figure_of first.now) (figure_of second.now) prepared }
+    ensures { IfOk result (λ answer. IsTrue answer
+        ↔ AreRelated relation.now first.now second.now) }
+{
+    if !takes_rings(relation, first) {
+        return Ok(false);
+    }
+    if !takes_rings(relation, second) {
+        return Ok(false);
+    }
+    if !may_be_related(relation, first, second) {
+        return Ok(false);
+    }
+    holds(alloc, relation, first, second, prepared)
+}
+
 /// Whether two geometries may stand in a relation, by their envelopes.
 fn may_be_related(relation: &AnyRelation, first: &AnyGeometry, second: &AnyGeometry) -> bool
     ensures exact { IsTrue result
@@ -77,7 +113,6 @@ fn takes_rings(relation: &AnyRelation, geometry: &AnyGeometry) -> bool
 }
 
 /// The matrix of two geometries, if a mask of the relation fits it.
-#[tactic(auto, using(crate::proofs::RelatedLemmas::fits_where_holds))]
 fn fitting(
     alloc: Global,
     relation: &AnyRelation,
@@ -91,45 +126,112 @@ fn fitting(
     ensures matrix { IfOk result (λ found. IfSome found
         (IsPlaneMatrix (figure_of first.now) (figure_of second.now))) }
 {
-    let matrix = pair_matrix(alloc, first, second, prepared)?;
-    let (first, second) = (first.geometry(), second.geometry());
+    let (a, b) = (first.geometry(), second.geometry());
     let relation = relation.relation();
-    if relation.fits(&matrix, first.dim(), second.dim()) {
-        Ok(Some(matrix))
+    if let Some(matrix) = relate_boxes(a, b) {
+        return Ok(matrix_that_fits(relation, a, b, matrix));
+    }
+    let question = question_of(relation, a, b);
+    fitting_forms(alloc, &question, first, second, prepared)
+}
+
+/// The matrix of two geometries, if a mask of the relation fits it.
+#[tactic(auto, using(crate::proofs::RelatedLemmas::fits_where_holds))]
+fn matrix_that_fits(relation: &Relation, a: &Geometry, b: &Geometry, m: Matrix) -> Option<Matrix>
+    requires { IsPlaneMatrix a.now b.now m }
+    ensures holds { IsSome result ↔ HoldsOf relation.now a.now b.now }
+    ensures matrix { IfSome result (IsPlaneMatrix a.now b.now) }
+{
+    if relation.fits(&m, a.dim(), b.dim()) {
+        Some(m)
     } else {
-        Ok(None)
+        None
     }
 }
 
-/// The matrix of two geometries of layers.
-fn pair_matrix(
+/// Whether two geometries stand in a relation, as far as it is told by masks.
+fn holds(
     alloc: Global,
+    relation: &AnyRelation,
     first: &AnyGeometry,
     second: &AnyGeometry,
     prepared: PreparedPair,
-) -> Result<Matrix, AllocError>
+) -> Result<bool, AllocError>
     requires { AreOf (figure_of first.now) (figure_of second.now) prepared }
-    ensures { IfOk result (IsPlaneMatrix (figure_of first.now) (figure_of second.now)) }
+    ensures { IfOk result (λ answer. IsTrue answer
+        ↔ HoldsOf (relation_of relation.now) (figure_of first.now) (figure_of second.now)) }
 {
-    match (prepared.first, prepared.second) {
-        (None, None) => plain_matrix(alloc, first, second),
-        _ => matrix_of(alloc, first.geometry(), second.geometry(), prepared),
+    let (a, b) = (first.geometry(), second.geometry());
+    let relation = relation.relation();
+    if let Some(matrix) = relate_boxes(a, b) {
+        return Ok(matrix_that_fits(relation, a, b, matrix).is_some());
+    }
+    let question = question_of(relation, a, b);
+    fits_forms(alloc, &question, first, second, prepared)
+}
+
+/// The masks of a relation for two geometries, and the greatest matrix of their dimensions.
+fn question_of<'a>(relation: &'a Relation, a: &Geometry, b: &Geometry) -> Question<'a>
+    ensures masks { result.masks.now ≡ masks relation.now (dim_of a.now) (dim_of b.now) }
+    ensures bound { IsUpperBound a.now b.now result.greatest }
+{
+    let (first_dim, second_dim) = (a.dim(), b.dim());
+    Question {
+        masks: relation.masks(first_dim, second_dim),
+        greatest: greatest(first_dim, second_dim),
     }
 }
 
-/// The matrix of two geometries of layers, neither of which is prepared. Their envelopes are known.
-fn plain_matrix(
+/// The matrix of two geometries of layers, if one of some masks fits it. Those that aren't prepared
+/// are prepared for this alone.
+fn fitting_forms(
     alloc: Global,
+    question: &Question,
     first: &AnyGeometry,
     second: &AnyGeometry,
-) -> Result<Matrix, AllocError>
-    ensures { IfOk result (IsPlaneMatrix (figure_of first.now) (figure_of second.now)) }
+    prepared: PreparedPair,
+) -> Result<Option<Matrix>, AllocError>
+    requires forms { AreOf (figure_of first.now) (figure_of second.now) prepared }
+    requires bound { let bound = question.now.greatest in
+        IsUpperBound (figure_of first.now) (figure_of second.now) bound }
+    ensures fits { let masks = question.now.masks.now in
+        IfOk result (λ found. IsSome found
+        ↔ FitMatrix masks (figure_of first.now) (figure_of second.now)) }
+    ensures matrix { IfOk result (λ found. IfSome found
+        (IsPlaneMatrix (figure_of first.now) (figure_of second.now))) }
 {
     let (a, b) = (first.geometry(), second.geometry());
-    if let Some(matrix) = relate_boxes(a, b) {
-        return Ok(matrix);
+    match (prepared.first, prepared.second) {
+        (None, None) => fitting_within(alloc, a, first.bounds(), b, second.bounds(), question),
+        (Some(p), Some(q)) => fitting_prepared(alloc, p, q, question),
+        (Some(p), None) => fitting_prepared(alloc, p, &PreparedGeometry::new(alloc, b)?, question),
+        (None, Some(q)) => fitting_prepared(alloc, &PreparedGeometry::new(alloc, a)?, q, question),
     }
-    relate_within(alloc, a, first.bounds(), b, second.bounds())
+}
+
+/// Whether one of some masks fits the matrix of two geometries of layers. Those that aren't prepared
+/// are prepared for this alone.
+fn fits_forms(
+    alloc: Global,
+    question: &Question,
+    first: &AnyGeometry,
+    second: &AnyGeometry,
+    prepared: PreparedPair,
+) -> Result<bool, AllocError>
+    requires forms { AreOf (figure_of first.now) (figure_of second.now) prepared }
+    requires bound { let bound = question.now.greatest in
+        IsUpperBound (figure_of first.now) (figure_of second.now) bound }
+    ensures { let masks = question.now.masks.now in
+        IfOk result (λ answer. IsTrue answer
+        ↔ FitMatrix masks (figure_of first.now) (figure_of second.now)) }
+{
+    let (a, b) = (first.geometry(), second.geometry());
+    match (prepared.first, prepared.second) {
+        (None, None) => fits_within(alloc, a, first.bounds(), b, second.bounds(), question),
+        (Some(p), Some(q)) => fits_prepared(alloc, p, q, question),
+        (Some(p), None) => fits_prepared(alloc, p, &PreparedGeometry::new(alloc, b)?, question),
+        (None, Some(q)) => fits_prepared(alloc, &PreparedGeometry::new(alloc, a)?, q, question),
+    }
 }
 
 /// The matrix of two geometries. Two boxes, such as points and rectangles, take no memory; of

@@ -2,13 +2,12 @@
 
 use deliver_core::Outcome;
 use refine_core::Refined;
-use relation_core::Matrix;
 
-/// The pairs of a join of any geometry, each with its matrix.
+/// The pairs of a join of any geometry, each with its answer, such as its matrix.
 #[derive(Drop)]
-pub struct AnyOutcome {
+pub struct AnyOutcome<A> {
     /// The pairs whose boxes meet, with the marks of their delivery.
     pub candidates: Outcome,
     /// Those of them that stand in the relation, in the same order.
-    pub matches: Vec<Refined<Matrix>>,
+    pub matches: Vec<Refined<A>>,
 }

@@ -7,5 +7,6 @@ pub mod MetLemmas
 pub mod OuterLemmas
 pub mod OutsideLemmas
 pub mod RoundLemmas
+pub mod SettledLemmas
 pub mod SharedLemmas
 pub mod WalkLemmas

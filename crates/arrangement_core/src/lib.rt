@@ -1,8 +1,9 @@
 //! The matrix of two geometries, read off the arrangement of their edges by as few of these as are
-//! enough.
+//! enough, and whether masks fit it.
 #![tactic(auto)]
 
 mod crossed;
+mod fits;
 mod known;
 mod marks;
 mod matrices;
@@ -13,6 +14,9 @@ mod prepared;
 mod rounds;
 mod shared;
 mod walk;
+mod wanted;
 mod work;
 
+pub use fits::{fits_prepared, fits_within, fitting_prepared, fitting_within};
 pub use prepared::{PreparedGeometry, relate, relate_prepared, relate_within};
+pub use wanted::Question;

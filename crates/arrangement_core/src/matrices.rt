@@ -1,7 +1,9 @@
 //! A matrix that grows by the edges of a geometry.
 
-ghost use Rattle.std.specs.Prelude.{◌≡◌, ◌++◌, All, OnOk, IfOk, IfSome, IsTrue, true};
+ghost use Rattle.std.specs.Prelude.{◌≡◌, ◌++◌, All, OnOk, IfOk, IfErr, IfSome, IsTrue};
+ghost use Rattle.std.specs.Prelude.{true};
 ghost use Rattle.plane_core.specs.Figures.{HasLength};
+ghost use Rattle.arrangement_core.specs.Answers.{IsBegun, IsStopOf};
 ghost use Rattle.arrangement_core.specs.Around.{HasNear};
 ghost use Rattle.shown_core.specs.Beyond.{IsBounded};
 ghost use Rattle.edge_index_core.specs.Beyond.{is_beyond};
@@ -15,6 +17,7 @@ use crate::near::push_second;
 use crate::pair::Pair;
 use crate::shared::adds_none_shared;
 use crate::walk::mark_noded;
+use crate::wanted::{Stop, Wanted, go_on};
 use crate::work::Work;
 use noding_core::{gather_nodes, push_near};
 use plane_core::{Edge, Kind, Outline, Part, Vertex};
@@ -156,29 +159,37 @@ pub(crate) fn no_work(alloc: Global) -> Result<Work, AllocError>
     })
 }
 
-/// A matrix that shows some edges of the first geometry.
+/// A matrix that shows some edges of the first geometry, or an early end.
 pub(crate) fn mark_some(
     work: &mut Work,
     matrix: Matrix,
     pair: &Pair,
     points: &[Vertex],
     edges: &[Edge],
-) -> Result<Matrix, AllocError>
+    wanted: &Wanted,
+) -> Result<Matrix, Stop>
     requires long { All HasLength (outline_edges pair.now.first.now pair.now.second.now) }
     requires own { All (IsOwn pair.now.first.now) edges.now }
+    requires first { IsBounded pair.now.first.now pair.now.first_box }
     requires bounded { IsBounded pair.now.second.now pair.now.second_box }
     requires near { HasNear pair.now.first.now pair.now.second.now pair.now.second_around.now }
     requires seen { IfSome work.old.seen (IsSeen pair.now.second.now) }
     requires shared { let a = pair.now.first.now in let b = pair.now.second.now in
         IsTrue pair.now.has_second → HasShared a b points.now matrix }
+    requires begun { let a = pair.now.first.now in let b = pair.now.second.now in
+        IsBegun pair.now.has_second a b points.now matrix }
     ensures marked { let a = pair.now.first.now in let b = pair.now.second.now in
         let marked = AreMarked a b (outline_edges a b) points.now edges.now in
         IfOk result (λ m. marked matrix m) }
     ensures seen { IfSome work.new.seen (IsSeen pair.now.second.now) }
+    ensures stop { let a = pair.now.first.now in let b = pair.now.second.now in
+        IfErr result (IsStopOf wanted.now pair.now.has_second a b) }
 {
     let mut grown = matrix;
     for e in edges {
-        grown = mark_edge(work, grown, pair, points, e)?;
+        let next = mark_edge(work, grown, pair, points, e)?;
+        go_on(wanted, pair.has_second, &grown, &next)?;
+        grown = next;
     }
     Ok(grown)
 }

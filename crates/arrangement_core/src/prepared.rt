@@ -1,13 +1,15 @@
 //! The matrix of two geometries, which may be prepared for it.
 
-ghost use Rattle.std.specs.Prelude.{◌≡◌, All, IfOk, OnOk};
+ghost use Rattle.std.specs.Prelude.{◌≡◌, All, IfOk, IfErr, OnOk};
 ghost use Rattle.plane_core.specs.Figures.{IsGeometry};
 ghost use Rattle.plane_core.specs.Outlines.{IsOutlineOf};
 ghost use Rattle.plane_core.specs.PlaneMatrices.{IsPlaneMatrix};
 ghost use Rattle.plane_core.specs.Vertices.{HoldsVertex, vertices_of};
+ghost use Rattle.arrangement_core.specs.Answers.{IsEnd};
 
 use crate::pair::Pair;
 use crate::rounds::read_off;
+use crate::wanted::{Stop, Wanted};
 use edge_index_core::IndexedOutline;
 use geom_core::Shape;
 use plane_core::Geometry;
@@ -93,17 +95,16 @@ fn indexed(alloc: Global, geometry: &Geometry, is_apart: bool) -> Result<Indexed
     }
 }
 
-/// The nine-intersection matrix of two prepared geometries. It takes time by the edges of each that
+/// The matrix of two prepared geometries, or an early end. It takes time by the edges of each that
 /// lie around the other's box, and by few beyond it.
-///
-/// # Errors
-/// If an allocation fails.
-pub fn relate_prepared(
+pub(crate) fn computed(
     alloc: Global,
     a: &PreparedGeometry,
     b: &PreparedGeometry,
-) -> Result<Matrix, AllocError>
-    ensures { IfOk result (λ m. IsPlaneMatrix a.now b.now m) }
+    wanted: &Wanted,
+) -> Result<Matrix, Stop>
+    ensures matrix { IfOk result (λ m. IsPlaneMatrix a.now b.now m) }
+    ensures end { IfErr result (IsEnd wanted.now a.now b.now) }
 {
     let first_around = a.outline.edges_around(alloc, &b.bounds)?;
     let second_around = b.outline.edges_around(alloc, &a.bounds)?;
@@ -116,8 +117,46 @@ pub fn relate_prepared(
         second_around: &second_around,
         has_second: false,
     };
-    let matrix = read_off(alloc, &pair)?;
+    let matrix = read_off(alloc, &pair, wanted)?;
     Ok(matrix)
+}
+
+/// The nine-intersection matrix of two prepared geometries. It takes time by the edges of each that
+/// lie around the other's box, and by few beyond it.
+///
+/// # Errors
+/// If an allocation fails.
+pub fn relate_prepared(
+    alloc: Global,
+    a: &PreparedGeometry,
+    b: &PreparedGeometry,
+) -> Result<Matrix, AllocError>
+    ensures { IfOk result (λ m. IsPlaneMatrix a.now b.now m) }
+{
+    match computed(alloc, a, b, &Wanted::Whole) {
+        Ok(matrix) => Ok(matrix),
+        Err(Stop::Memory(error)) => Err(error),
+        Err(Stop::Settled(_)) => unreachable!(),
+    }
+}
+
+/// Prepares two geometries for each other, given for each a box in which its vertices lie.
+pub(crate) fn prepared_for<'a>(
+    alloc: Global,
+    a: &'a Geometry,
+    a_box: Shape,
+    b: &'a Geometry,
+    b_box: Shape,
+) -> Result<(PreparedGeometry<'a>, PreparedGeometry<'a>), AllocError>
+    requires first { All (HoldsVertex a_box) (vertices_of a.now) }
+    requires second { All (HoldsVertex b_box) (vertices_of b.now) }
+    ensures first { IfOk result (λ both. both.0 ≡ a.now) }
+    ensures second { IfOk result (λ both. both.1 ≡ b.now) }
+{
+    let is_apart = !a_box.meets(&b_box);
+    let first = PreparedGeometry::for_one(alloc, a, a_box, is_apart)?;
+    let second = PreparedGeometry::for_one(alloc, b, b_box, is_apart)?;
+    Ok((first, second))
 }
 
 /// The nine-intersection matrix of two geometries: for each part of the first and each part of the
@@ -148,9 +187,7 @@ pub fn relate_within(
     requires second { All (HoldsVertex b_box) (vertices_of b.now) }
     ensures { IfOk result (λ m. IsPlaneMatrix a.now b.now m) }
 {
-    let is_apart = !a_box.meets(&b_box);
-    let first = PreparedGeometry::for_one(alloc, a, a_box, is_apart)?;
-    let second = PreparedGeometry::for_one(alloc, b, b_box, is_apart)?;
+    let (first, second) = prepared_for(alloc, a, a_box, b, b_box)?;
     let matrix = relate_prepared(alloc, &first, &second)?;
     Ok(matrix)
 }

@@ -1,20 +1,22 @@
 //! The edges of two geometries in rounds: first those around the other geometry's box, then those
 //! beyond it, of which few are enough.
 
-ghost use Rattle.std.specs.Prelude.{◌≡◌, ◌≤◌, false, length, All, IfOk, IsTrue};
+ghost use Rattle.std.specs.Prelude.{◌≡◌, ◌≤◌, false, length, All, IfOk, IfErr, IsTrue};
 ghost use Rattle.plane_core.specs.Figures.{HasLength};
 ghost use Rattle.edge_index_core.specs.Around.{AreAround};
 ghost use Rattle.edge_index_core.specs.Beyond.{is_beyond};
+ghost use Rattle.arrangement_core.specs.Answers.{IsBegun, IsStop, IsStopOf};
 ghost use Rattle.arrangement_core.specs.Around.{HasNear};
 ghost use Rattle.arrangement_core.specs.Shared.{HasShared};
 ghost use Rattle.shown_core.specs.Beyond.{IsBounded, is_around};
 ghost use Rattle.noding_core.specs.Growth.{outside};
-ghost use Rattle.noding_core.specs.ReadOffs.{outline_edges, IsOwn, AreMarked, AreSomeMarked};
-ghost use Rattle.noding_core.specs.ReadOffs.{AreAllMarked, IsReadOffBy};
+ghost use Rattle.noding_core.specs.ReadOffs.{outline_edges, outline_points, IsOwn, AreMarked};
+ghost use Rattle.noding_core.specs.ReadOffs.{AreSomeMarked, AreAllMarked, IsReadOffBy};
 
 use crate::marks::mark_points;
 use crate::matrices::{all_points, mark_outer_edge, mark_some, no_work};
 use crate::pair::Pair;
+use crate::wanted::{Stop, Wanted};
 use crate::work::Work;
 use edge_index_core::is_beyond;
 use noding_core::{outside, transposed};
@@ -39,40 +41,48 @@ fn lowest(edges: &[Edge]) -> usize
     place
 }
 
-/// A matrix that shows edges of the first geometry, beginning at their lowest vertex: the interior
-/// of a ring lies above one of the edges there, so that it is soon shown.
+/// A matrix that shows edges of the first geometry, beginning at their lowest vertex, or an early
+/// end. The interior of a ring lies above one of the edges there, so that it is soon shown.
 fn mark_edges(
     work: &mut Work,
     matrix: Matrix,
     pair: &Pair,
     points: &[Vertex],
     edges: &[Edge],
-) -> Result<Matrix, AllocError>
+    wanted: &Wanted,
+) -> Result<Matrix, Stop>
     requires long { All HasLength (outline_edges pair.now.first.now pair.now.second.now) }
     requires own { All (IsOwn pair.now.first.now) edges.now }
+    requires first { IsBounded pair.now.first.now pair.now.first_box }
     requires bounded { IsBounded pair.now.second.now pair.now.second_box }
     requires near { HasNear pair.now.first.now pair.now.second.now pair.now.second_around.now }
     requires shared { let a = pair.now.first.now in let b = pair.now.second.now in
         IsTrue pair.now.has_second → HasShared a b points.now matrix }
-    ensures { let a = pair.now.first.now in let b = pair.now.second.now in
+    requires begun { let a = pair.now.first.now in let b = pair.now.second.now in
+        IsBegun pair.now.has_second a b points.now matrix }
+    ensures marked { let a = pair.now.first.now in let b = pair.now.second.now in
         let marked = AreMarked a b (outline_edges a b) points.now edges.now in
         IfOk result (λ m. marked matrix m) }
+    ensures stop { let a = pair.now.first.now in let b = pair.now.second.now in
+        IfErr result (IsStopOf wanted.now pair.now.has_second a b) }
 {
     work.seen = None;
     let start = lowest(edges);
     let (before, after) = edges.split_at(start);
-    let begun = mark_some(work, matrix, pair, points, after)?;
-    let grown = mark_some(work, begun, pair, points, before)?;
+    let begun = mark_some(work, matrix, pair, points, after, wanted)?;
+    let grown = mark_some(work, begun, pair, points, before, wanted)?;
     Ok(grown)
 }
 
-/// A matrix that shows the edges of the first geometry around the box of the second.
+/// A matrix that shows the edges of the first geometry around the box of the second, or an early
+/// end.
 fn mark_around(
     work: &mut Work,
     matrix: Matrix,
     pair: &Pair,
     points: &[Vertex],
-) -> Result<Matrix, AllocError>
+    wanted: &Wanted,
+) -> Result<Matrix, Stop>
     requires long { All HasLength (outline_edges pair.now.first.now pair.now.second.now) }
     requires first { IsBounded pair.now.first.now pair.now.first_box }
     requires second { IsBounded pair.now.second.now pair.now.second_box }
@@ -82,12 +92,16 @@ fn mark_around(
         AreAround pair.now.first_box edges pair.now.second_around.now }
     requires shared { let a = pair.now.first.now in let b = pair.now.second.now in
         IsTrue pair.now.has_second → HasShared a b points.now matrix }
-    ensures { let a = pair.now.first.now in let b = pair.now.second.now in
+    requires begun { let a = pair.now.first.now in let b = pair.now.second.now in
+        IsBegun pair.now.has_second a b points.now matrix }
+    ensures marked { let a = pair.now.first.now in let b = pair.now.second.now in
         let es = outline_edges a b in let box = pair.now.second_box in
         let marked = AreSomeMarked a b es points.now (is_around box) a.edges.items in
         IfOk result (λ m. marked matrix m) }
+    ensures stop { let a = pair.now.first.now in let b = pair.now.second.now in
+        IfErr result (IsStopOf wanted.now pair.now.has_second a b) }
 {
-    let grown = mark_edges(work, matrix, pair, points, pair.first_around)?;
+    let grown = mark_edges(work, matrix, pair, points, pair.first_around, wanted)?;
     Ok(grown)
 }
 
@@ -164,8 +178,13 @@ fn mark_outer(
     Ok(grown)
 }
 
-/// The matrix with all edges of two geometries.
-fn mark_both(work: &mut Work, pair: &Pair, points: &[Vertex]) -> Result<Matrix, AllocError>
+/// The matrix with all edges of two geometries, or an early end.
+fn mark_both(
+    work: &mut Work,
+    pair: &Pair,
+    points: &[Vertex],
+    wanted: &Wanted,
+) -> Result<Matrix, Stop>
     requires long { All HasLength (outline_edges pair.now.first.now pair.now.second.now) }
     requires first { IsBounded pair.now.first.now pair.now.first_box }
     requires second { IsBounded pair.now.second.now pair.now.second_box }
@@ -174,22 +193,25 @@ fn mark_both(work: &mut Work, pair: &Pair, points: &[Vertex]) -> Result<Matrix, 
     requires second_around { let edges = pair.now.second.now.edges.items in
         AreAround pair.now.first_box edges pair.now.second_around.now }
     requires none { pair.now.has_second ≡ false }
-    ensures { let a = pair.now.first.now in let b = pair.now.second.now in
+    requires points { points.now ≡ outline_points pair.now.first.now pair.now.second.now }
+    ensures marked { let a = pair.now.first.now in let b = pair.now.second.now in
         IfOk result (λ m. AreAllMarked a b points.now outside m) }
+    ensures stop { let a = pair.now.first.now in let b = pair.now.second.now in
+        IfErr result (IsStop wanted.now a b) }
 {
     let turned = pair.turned();
     let start = outside();
-    let around_first = mark_around(work, start, pair, points)?;
+    let around_first = mark_around(work, start, pair, points, wanted)?;
     let across = transposed(&around_first);
-    let around_both = mark_around(work, across, &turned, points)?;
+    let around_both = mark_around(work, across, &turned, points, wanted)?;
     let second = mark_outer(work, around_both, &turned, points)?;
     let back = transposed(&second);
     let all = mark_outer(work, back, pair, points)?;
     Ok(all)
 }
 
-/// The matrix with all edges and points of two geometries.
-pub(crate) fn read_off(alloc: Global, pair: &Pair) -> Result<Matrix, AllocError>
+/// The matrix with all edges and points of two geometries, or an early end.
+pub(crate) fn read_off(alloc: Global, pair: &Pair, wanted: &Wanted) -> Result<Matrix, Stop>
     requires long { All HasLength (outline_edges pair.now.first.now pair.now.second.now) }
     requires first { IsBounded pair.now.first.now pair.now.first_box }
     requires second { IsBounded pair.now.second.now pair.now.second_box }
@@ -198,12 +220,14 @@ pub(crate) fn read_off(alloc: Global, pair: &Pair) -> Result<Matrix, AllocError>
     requires second_around { let edges = pair.now.second.now.edges.items in
         AreAround pair.now.first_box edges pair.now.second_around.now }
     requires none { pair.now.has_second ≡ false }
-    ensures { IfOk result (λ m. IsReadOffBy pair.now.first.now pair.now.second.now m) }
+    ensures read { IfOk result (λ m. IsReadOffBy pair.now.first.now pair.now.second.now m) }
+    ensures stop { let a = pair.now.first.now in let b = pair.now.second.now in
+        IfErr result (IsStop wanted.now a b) }
 {
     let point_list = all_points(alloc, pair.first.outline(), pair.second.outline())?;
     let points = point_list.as_slice();
     let mut work = no_work(alloc)?;
-    let marked = mark_both(&mut work, pair, points)?;
+    let marked = mark_both(&mut work, pair, points, wanted)?;
     let with_first = mark_points(marked, pair.first, pair.second);
     let turned = transposed(&with_first);
     let with_second = mark_points(turned, pair.second, pair.first);

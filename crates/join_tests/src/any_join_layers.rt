@@ -1,7 +1,7 @@
 //! Layers of any geometry from texts, and their joins.
 
 use any_geometry_core::AnyGeometry;
-use any_join_core::{AnyOutcome, join_any};
+use any_join_core::{AnyOutcome, join_any, join_any_pairs};
 use any_relation_core::AnyRelation;
 use layer_core::Layer;
 use layer_edit_core::LayerEditor;
@@ -48,18 +48,39 @@ pub(crate) fn relation(text: &str, rings: Rings) -> Option<AnyRelation> {
     AnyRelation::new(relation, rings).ok()
 }
 
+/// The layers of these texts.
+fn layers<R: RandomSource + AllocGlobal>(
+    rt: &R,
+    texts: Texts,
+) -> Option<(Layer<AnyGeometry>, Layer<AnyGeometry>)> {
+    let (alloc, rings) = (rt.alloc(), texts.rings);
+    let left = layer(alloc, RandomState::new(rt).ok()?, texts.left, rings)?;
+    let right = layer(alloc, RandomState::new(rt).ok()?, texts.right, rings)?;
+    Some((left, right))
+}
+
 /// The result of joining the layers of these texts.
 pub(crate) fn joined<R: RandomSource + AllocGlobal + Threads + Wait + Sync>(
     rt: &R,
     texts: Texts,
     relation_text: &str,
     options: &Options,
-) -> Option<AnyOutcome> {
-    let (alloc, rings) = (rt.alloc(), texts.rings);
-    let left = layer(alloc, RandomState::new(rt).ok()?, texts.left, rings)?;
-    let right = layer(alloc, RandomState::new(rt).ok()?, texts.right, rings)?;
-    let relation = relation(relation_text, rings)?;
+) -> Option<AnyOutcome<Matrix>> {
+    let (left, right) = layers(rt, texts)?;
+    let relation = relation(relation_text, texts.rings)?;
     join_any(rt, &left, &right, &relation, options).ok()
+}
+
+/// The same for the pairs alone.
+pub(crate) fn joined_pairs<R: RandomSource + AllocGlobal + Threads + Wait + Sync>(
+    rt: &R,
+    texts: Texts,
+    relation_text: &str,
+    options: &Options,
+) -> Option<AnyOutcome<()>> {
+    let (left, right) = layers(rt, texts)?;
+    let relation = relation(relation_text, texts.rings)?;
+    join_any_pairs(rt, &left, &right, &relation, options).ok()
 }
 
 /// Whether these are the matches, in order.
@@ -70,4 +91,13 @@ pub(crate) fn are_rows(matches: &[Refined<Matrix>], rows: &[Row]) -> bool {
             found.pair.1,
             found.answer.text(),
         ) == *row)
+}
+
+/// Whether these are the pairs of the matches, in order.
+pub(crate) fn are_pairs(matches: &[Refined<()>], rows: &[Row]) -> bool {
+    matches.len() == rows.len()
+        && matches
+            .iter()
+            .zip(rows)
+            .all(|(found, row)| found.pair == (row.0, row.1))
 }

@@ -1,6 +1,6 @@
 //! Joins of small layers by one worker, by two and by sixteen, with answers worked out by hand.
 
-use crate::any_join_layers::{Row, Texts, are_rows, joined, relation};
+use crate::any_join_layers::{Row, Texts, are_pairs, are_rows, joined, joined_pairs, relation};
 use any_join_core::{PreparedPair, related};
 use options_core::Options;
 use plane_core::Rings;
@@ -60,7 +60,7 @@ const NOTHING: Texts = Texts {
     right: &["POINT (0 0)"],
 };
 
-/// Whether joins by these numbers of workers give these rows.
+/// Whether joins by these numbers of workers give these rows, and the pairs of these.
 pub(crate) fn gives<R: RandomSource + AllocGlobal + Threads + Wait + Sync>(
     rt: &R,
     texts: Texts,
@@ -70,7 +70,8 @@ pub(crate) fn gives<R: RandomSource + AllocGlobal + Threads + Wait + Sync>(
     for workers in [1, 2, 16] {
         let options = Options::new(workers, 1, 8)?;
         let outcome = joined(rt, texts, relation, &options).ok_or("a join")?;
-        if !are_rows(&outcome.matches, rows) {
+        let alone = joined_pairs(rt, texts, relation, &options).ok_or("a join")?;
+        if !are_rows(&outcome.matches, rows) || !are_pairs(&alone.matches, rows) {
             return Ok(false);
         }
     }

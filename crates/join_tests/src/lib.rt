@@ -24,6 +24,8 @@ mod descent_refused;
 #[cfg(test)]
 mod descent_rows;
 #[cfg(test)]
+mod early_ends;
+#[cfg(test)]
 mod even_sums;
 #[cfg(test)]
 mod expected;

@@ -1,7 +1,9 @@
 use Rattle.std.proofs.Common.{sym, subst, refl}
+use Rattle.std.proofs.lemmas.Result.{err_from_is_err_and}
 use Rattle.noding_core.specs.ReadOffs.{outline_edges, IsOwn}
 use Rattle.noding_core.proofs.ReadOffLemmas.{marked_none, marked_more, marked_whole}
 use Rattle.shown_core.proofs.ShownLemmas.{edges_of_first}
+use Rattle.arrangement_core.proofs.SettledLemmas.{part_next}
 use Rattle.arrangement_core.proofs.SharedLemmas.{shared_still}
 use Rattle.arrangement_core.proofs.matrices.mark_some.Goals as goal
 
@@ -22,8 +24,8 @@ mark_edge-requires-clause-seen c = c.loop-e.invariant.seen
 
 pub loop-e-preserved : goal.loop-e-preserved
 loop-e-preserved c = record {
-  marked = marked_more _ _ _ _ _ _ _ _ _ _ c.loop-e-test.true c.e-item.is c.loop-e.invariant.marked c.in_ok-grown.ensures.marked;
-  seen = c.in_ok-grown.ensures.seen;
+  marked = marked_more _ _ _ _ _ _ _ _ _ _ c.loop-e-test.true c.e-item.is c.loop-e.invariant.marked c.in_ok-next.ensures.marked;
+  seen = c.in_ok-next.ensures.seen;
 }
 
 pub returns-clause-marked : goal.returns-clause-marked
@@ -32,3 +34,11 @@ returns-clause-marked c = marked_whole _ _ _ _ _ c.loop-e.e-index _ _ c.loop-e-t
 pub mark_edge-requires-clause-shared : goal.mark_edge-requires-clause-shared
 mark_edge-requires-clause-shared c =
     shared_still c.args.pair.now.first.now c.args.pair.now.second.now c.args.pair.now.has_second _ _ _ _ c.loop-e.invariant.marked c.requires.shared
+
+-- what the edges that the matrix includes settle
+pub returns-in_err-go_on-clause-stop : goal.returns-in_err-go_on-clause-stop
+returns-in_err-go_on-clause-stop c =
+    let p = err_from_is_err_and c.from_residual-in_err-go_on.result c.from_residual-in_err-go_on.ensures.1 in
+    rw (p.1, p.2) (c.in_err-go_on.ensures _ _
+    (part_next c.args.pair.now.has_second c.args.pair.now.first.now c.args.pair.now.second.now _ _ _ _ _ _ _ _ _ c.loop-e-test.true c.e-item.is c.requires.own
+    c.requires.first c.requires.bounded c.requires.long c.requires.begun c.loop-e.invariant.marked c.in_ok-next.ensures.marked))

@@ -1,6 +1,8 @@
+use Rattle.std.specs.Prelude.{false}
 use Rattle.edge_index_core.specs.Beyond.{is_beyond}
 use Rattle.noding_core.proofs.TurnLemmas.{long_turned}
 use Rattle.arrangement_core.proofs.RoundLemmas.{rounds}
+use Rattle.arrangement_core.proofs.SettledLemmas.{begun_none, begun_some, begun_turned}
 use Rattle.arrangement_core.proofs.SharedLemmas.{shared_first}
 use Rattle.arrangement_core.proofs.rounds.mark_both.Goals as goal
 
@@ -10,12 +12,12 @@ mark_around-requires-2-clause-long c = long_turned c.args.pair.now.first.now c.a
 pub mark_outer-requires-clause-long : goal.mark_outer-requires-clause-long
 mark_outer-requires-clause-long c = long_turned c.args.pair.now.first.now c.args.pair.now.second.now _ _ c.turned-turned.ensures.first c.turned-turned.ensures.second c.requires.long
 
-pub returns : goal.returns
-returns c =
+pub returns-clause-marked : goal.returns-clause-marked
+returns-clause-marked c =
     let t = c.turned-turned.ensures in
     rounds c.args.pair.now.first.now c.args.pair.now.second.now (is_beyond c.args.pair.now.second_box) (is_beyond c.args.pair.now.first_box) _ _ _ _ _ _
-    (rw c.outside-start.ensures at c.in_ok-around_first.ensures)
-    (rw (t.first, t.second, t.second_box, c.transposed-across.ensures) at c.in_ok-around_both.ensures)
+    (rw c.outside-start.ensures at c.in_ok-around_first.ensures.marked)
+    (rw (t.first, t.second, t.second_box, c.transposed-across.ensures) at c.in_ok-around_both.ensures.marked)
     (rw (t.first, t.second, t.second_box) at c.in_ok-second.ensures)
     (rw c.transposed-back.ensures at c.in_ok-all.ensures)
 
@@ -23,4 +25,16 @@ pub mark_around-requires-2-clause-shared : goal.mark_around-requires-2-clause-sh
 mark_around-requires-2-clause-shared c =
     let t = c.turned-turned.ensures in
     rw (t.first, t.second, c.transposed-across.ensures) (λ is. shared_first c.args.pair.now.first.now c.args.pair.now.second.now _ c.args.pair.now.second_box _ c.requires.second
-    (rw c.outside-start.ensures at c.in_ok-around_first.ensures))
+    (rw c.outside-start.ensures at c.in_ok-around_first.ensures.marked))
+
+pub mark_around-requires-clause-begun : goal.mark_around-requires-clause-begun
+mark_around-requires-clause-begun c =
+    rw (c.outside-start.ensures, c.requires.none) (begun_none c.args.pair.now.first.now c.args.pair.now.second.now _ c.requires.points)
+
+pub mark_around-requires-2-clause-begun : goal.mark_around-requires-2-clause-begun
+mark_around-requires-2-clause-begun c =
+    let a = c.args.pair.now.first.now in
+    let b = c.args.pair.now.second.now in
+    let t = c.turned-turned.ensures in
+    rw (t.first, t.second, t.marked, c.transposed-across.ensures) (begun_turned a b _ _
+    (begun_some false a b _ _ _ _ _ (begun_none a b _ c.requires.points) (rw c.outside-start.ensures at c.in_ok-around_first.ensures.marked)))

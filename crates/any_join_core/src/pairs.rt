@@ -1,0 +1,71 @@
+//! The relation of two features of two layers, as a condition that a refinement decides without an
+//! answer.
+
+use crate::features::RelatedFeatures;
+use crate::matching::{PreparedPair, are_related};
+use crate::prepared::PreparedLayer;
+use any_relation_core::AnyRelation;
+use refine_core::Condition;
+use std::alloc::{AllocError, Global};
+
+/// Which features of two layers stand in a relation, with no answer besides.
+#[derive(Drop)]
+pub struct RelatedPairs<'a> {
+    features: RelatedFeatures<'a>,
+}
+
+impl<'a> RelatedPairs<'a> {
+    ghost use Rattle.std.specs.Prelude.{◌≡◌};
+    ghost use Rattle.any_join_core.specs.Conditions.{features_of, left_of, right_of, wanted};
+
+    /// The relation of the features of these layers.
+    pub fn new(
+        left: PreparedLayer<'a>,
+        right: PreparedLayer<'a>,
+        relation: &'a AnyRelation,
+    ) -> RelatedPairs<'a>
+        ensures left { left_of (features_of result) ≡ left.entry }
+        ensures right { right_of (features_of result) ≡ right.entry }
+        ensures relation { wanted (features_of result) ≡ relation.now }
+    {
+        let features = RelatedFeatures::new(left, right, relation);
+        RelatedPairs { features }
+    }
+}
+
+impl<'a> Condition for RelatedPairs<'a> {
+    ghost use Rattle.std.specs.Prelude.{⊤};
+    ghost use Rattle.any_join_core.specs.Conditions.{features_of, left_of, right_of, wanted};
+    ghost use Rattle.filter_core.specs.Joins.{StandIn};
+    ghost use Rattle.any_join_core.specs.Matches.{BoxesMeet, AreRelated};
+    ghost use Rattle.any_join_core.specs.StandingNear.{standing_near};
+
+    /// Nothing.
+    type Answer = ();
+
+    ghost near = { λ c i j. let f = features_of c in
+        StandIn BoxesMeet (left_of f) (right_of f) (i, j) };
+
+    ghost stands = { λ c i j. let f = features_of c in
+        StandIn (AreRelated (wanted f)) (left_of f) (right_of f) (i, j) };
+
+    ghost answers = { λ c i j m. ⊤ };
+
+    fn decide(&self, alloc: Global, left: u32, right: u32) -> Result<Option<()>, AllocError> {
+        let features = &self.features;
+        let prepared = PreparedPair {
+            first: features.left.prepared(left),
+            second: features.right.prepared(right),
+        };
+        match (features.left.shape(left), features.right.shape(right)) {
+            (Some(first), Some(second)) => {
+                let answer = are_related(alloc, features.relation, first, second, prepared)?;
+                Ok(answer.then_some(()))
+            }
+            _ => Ok(None),
+        }
+    }
+
+    ghost stands_near = { λ c i j stands. let f = c.features in
+        standing_near f.relation.now f.left f.right i j stands };
+}
