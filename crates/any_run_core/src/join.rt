@@ -19,12 +19,13 @@ ghost use Rattle.run_core.specs.Texts.{bytes_of_text};
 ghost use Rattle.any_run_core.specs.AnyJoinings.{any_joining};
 
 use any_geometry_core::AnyGeometry;
-use any_join_core::join_any;
+use any_join_core::{join_any, join_any_pairs};
 use any_relation_core::AnyRelation;
 use file_core::{LayerReader, Unreadable};
 use format_core::AnyFormat;
 use join_core::{JoinJob, Output, can_be_made};
 use layer_core::Layer;
+use options_core::Product;
 use report_core::Sink;
 use row_core::Source;
 use run_core::{
@@ -165,11 +166,21 @@ fn product<R: AllocGlobal + Threads + Wait + Sync>(
     if !can_be_made(*product, left, right) {
         return Err(RunFault::TooManyToDraw);
     }
-    let outcome = join_any(rt, left, right, &condition.relation, options)?;
     let output = Output {
         rt,
         product: *product,
         workers: options.workers(),
     };
-    output.text(left, right, outcome.matches.as_slice())
+    let relation = &condition.relation;
+    match product {
+        Product::Report => {
+            let outcome = join_any(rt, left, right, relation, options)?;
+            output.text(left, right, outcome.matches.as_slice())
+        }
+        // Neither shows a matrix.
+        Product::Pairs | Product::Picture => {
+            let outcome = join_any_pairs(rt, left, right, relation, options)?;
+            output.pair_text(left, right, outcome.matches.as_slice())
+        }
+    }
 }
