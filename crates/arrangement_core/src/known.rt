@@ -21,7 +21,7 @@ use crate::outside::is_outside;
 use crate::pair::Pair;
 use edge_index_core::IndexedOutline;
 use noding_core::row_of;
-use plane_core::{Edge, Kind, Outline, Part, Place, Vertex};
+use plane_core::{Edge, Kind, Part, Place, Vertex};
 use relation_core::{Extent, Matrix, Parts};
 use shown_core::{Course, are_shown, is_edge_shown, is_face_shown, is_free};
 
@@ -130,20 +130,28 @@ fn parts_passed(kind: Kind) -> Parts<bool>
 }
 
 /// Whether a matrix has the nodes and pieces of an edge that runs along none of the other geometry.
-fn is_all_shown(matrix: &Matrix, own: &Outline, other: &Outline, e: &Edge, near: &[Edge]) -> bool
+fn is_all_shown(
+    matrix: &Matrix,
+    own: &IndexedOutline,
+    other: &IndexedOutline,
+    e: &Edge,
+    near: &[Edge],
+) -> bool
     ensures { IsTrue result → IsAllShown matrix.now own.now other.now e.now near.now }
 {
-    if own.kind == Kind::Points || other.kind == Kind::Points {
+    let kind = own.outline().kind;
+    let other_kind = other.outline().kind;
+    if kind == Kind::Points || other_kind == Kind::Points {
         return false;
     }
-    if !is_face_shown(matrix, own.kind, other.kind, e) || !is_free(own, e) {
+    if !is_face_shown(matrix, kind, other_kind, e) || !is_free(own, e) {
         return false;
     }
-    let row = row_of(matrix, part_along(own.kind));
-    if !are_shown(&row, &parts_passed(other.kind), Extent::Line) {
+    let row = row_of(matrix, part_along(kind));
+    if !are_shown(&row, &parts_passed(other_kind), Extent::Line) {
         return false;
     }
-    are_shown(&row, &parts_met(other.kind, e, near), Extent::Point)
+    are_shown(&row, &parts_met(other_kind, e, near), Extent::Point)
 }
 
 /// The part that is seen, if one is.
@@ -170,12 +178,11 @@ pub(crate) fn adds_none_near(matrix: &Matrix, pair: &Pair, course: &Course, near
         (points : List Vertex) → IsTrue result
         → IsEdgeMarked a b (outline_edges a b) points course.now.edge matrix.now matrix.now }
 {
-    let own = pair.first.outline();
     match course.part {
-        Some(part) => is_edge_shown(matrix, own, part, &course.edge),
+        Some(part) => is_edge_shown(matrix, pair.first, part, &course.edge),
         None => {
             if course.is_apart {
-                is_all_shown(matrix, own, pair.second.outline(), &course.edge, near)
+                is_all_shown(matrix, pair.first, pair.second, &course.edge, near)
             } else {
                 false
             }

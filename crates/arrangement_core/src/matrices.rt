@@ -136,7 +136,7 @@ pub(crate) fn mark_outer_edge(
     ensures { let a = pair.now.first.now in let b = pair.now.second.now in
         IfOk result (λ m. IsEdgeMarked a b (outline_edges a b) points.now e.now matrix m) }
 {
-    if is_edge_shown(&matrix, pair.first.outline(), Part::Exterior, e) {
+    if is_edge_shown(&matrix, pair.first, Part::Exterior, e) {
         return Ok(matrix);
     }
     let course = Course {

@@ -152,7 +152,7 @@ fn add_on(walk: Walk, pair: &Pair, part: Part, p: &Place, after: Option<Part>) -
         HasGrownBy marks walk.matrix result.matrix }
     ensures after { result.part ≡ after }
 {
-    let other = part_on_edge(pair.second.outline(), p);
+    let other = part_on_edge(pair.second, p);
     let matrix = raised(walk.matrix, part, other, Extent::Point);
     Walk {
         matrix,
@@ -181,7 +181,7 @@ fn add_node(
     ensures after { let a = pair.now.first.now in let b = pair.now.second.now in
         IfSome result.part (LiesAfter a b course.now.edge (point_of p.now)) }
 {
-    let part = part_on_edge(pair.first.outline(), p);
+    let part = part_on_edge(pair.first, p);
     if is_settled(&walk, part, pair.second, is_last) {
         return Walk { part: None, ..walk };
     }
@@ -205,7 +205,7 @@ fn place_piece(walk: Walk, pair: &Pair, course: &Course, p: &Place) -> Walk
         HasGrownBy (piece_marks a b course.now.edge (point_of p.now)) walk.matrix result.matrix }
     ensures off { IfSome result.part (LiesOff pair.now.second.now (point_of p.now)) }
 {
-    let part = part_on_edge(pair.first.outline(), p);
+    let part = part_on_edge(pair.first, p);
     let standing = standing_of(pair.second, course, walk.part, p);
     let off = part_off(pair.second.outline().kind, standing.part);
     let on = raised(walk.matrix, part, standing.part, Extent::Line);
@@ -231,9 +231,7 @@ fn add_piece(walk: Walk, pair: &Pair, course: &Course, p: &Place) -> Walk
         HasGrownBy (piece_marks a b course.now.edge (point_of p.now)) walk.matrix result.matrix }
     ensures off { IfSome result.part (LiesOff pair.now.second.now (point_of p.now)) }
 {
-    let own = pair.first.outline();
-    let other = pair.second.outline();
-    if is_piece_shown(&walk.matrix, own, other, course, p) {
+    if is_piece_shown(&walk.matrix, pair.first, pair.second, course, p) {
         walk
     } else {
         place_piece(walk, pair, course, p)

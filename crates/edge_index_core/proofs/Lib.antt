@@ -1,6 +1,7 @@
 pub mod AroundLemmas
 pub mod BetweenLemmas
 pub mod BoxLemmas
+pub mod EndLemmas
 pub mod EntryLemmas
 pub mod OverLemmas
 pub mod RunLemmas

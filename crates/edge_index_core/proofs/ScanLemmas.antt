@@ -2,7 +2,6 @@
 use Rattle.std.proofs.Common.{arith, ◌≡◌, ◌<◌, ◌+◌, ℕ, Bool, true, false, cond, ◌||◌, List, [], ◌∷◌, ◌++◌, length, get_or, take, map, refl, sym, ap, subst, ◌∙◌, append_assoc, append-nil, All}
 use Rattle.std.specs.Prelude.{count_by, nat_lt}
 use Rattle.std.specs.List.{list_any, flat_map}
-use Rattle.std.proofs.lemmas.Bool.Decides.{nat_tests}
 use Rattle.std.proofs.lemmas.List.{map-append, take_more, ext_get_or, get_or_default, get_or-map, length-map}
 use Rattle.std.proofs.lemmas.List.Concat.{flat_map-append}
 use Rattle.std.proofs.lemmas.List.Folds.{list_any-append}
@@ -16,6 +15,7 @@ use Rattle.plane_core.specs.Points.{Point, is_on, is_below, is_at_or_below}
 use Rattle.plane_core.specs.Boxes.{is_over}
 use Rattle.plane_core.specs.Figures.{is_odd}
 use Rattle.plane_core.specs.Outlines.{IsScan}
+use Rattle.plane_core.proofs.OutlineLemmas.{any_count}
 use Rattle.rtree_core.specs.declared.node.Entry.{Entry}
 use Rattle.rtree_core.specs.declared.node.Node.{Node}
 use Rattle.rtree_core.specs.Nodes.{entries_of}
@@ -109,20 +109,6 @@ adds_pruned es p n cover s wide inside all off =
     (All-weaker (λ x. IsIn x.shape cover) (λ x. is_over x.shape p ≡ false) (λ x i. not_over_in x.shape cover p wide i off) (entries_of n) inside)
 
 -- a scan by counts alone
-any_count : {T : Type 0} (f : T → Bool) (xs : List T) → list_any f xs ≡ nat_lt 0 (count_by f xs)
-any_count f [] = refl
-any_count f (x ∷ xs) = plain (f x) (list_any f xs) (count_by f xs) (count_by f (x ∷ xs)) (any_count f xs) (sum_by-cons (λ y. cond {A = ℕ} (f y) 1 0) x xs)
-  where
-    plain : (t s : Bool) (n m : ℕ) → s ≡ nat_lt 0 n → m ≡ cond {A = ℕ} t 1 0 + n → (t || s) ≡ nat_lt 0 m
-    plain true s n m h e = positive m n e
-      where
-        positive : (m n : ℕ) → m ≡ 1 + n → true ≡ nat_lt 0 m
-        positive m n e = grind (arith, nat_tests)
-    plain false s n m h e = rw (e ∙ from_zero n) h
-      where
-        from_zero : (n : ℕ) → 0 + n ≡ n
-        from_zero n = omega arith
-
 scan_same : (es fs : List Edge) (p : Point) (s : Scan) → ((f : Edge → Bool) → count_by f es ≡ count_by f fs) → IsScan es p s → IsScan fs p s
 scan_same es fs p s same h = record {
   on = h.on ∙ any_count (λ e. is_on e p) es ∙ ap (nat_lt 0) (same (λ e. is_on e p)) ∙ sym (any_count (λ e. is_on e p) fs);

@@ -1,6 +1,7 @@
 pub mod Around
 pub mod Beyond
 pub mod Bounds
+pub mod Ends
 pub mod Entries
 pub mod Indexes
 pub mod Runs

@@ -7,7 +7,7 @@ use Rattle.std.proofs.lemmas.List.{take_more, take_all, append-nil, take-append-
 use Rattle.std.proofs.lemmas.List.Elements.{All-append, All-cons, All-nil}
 use Rattle.geom_core.specs.declared.shape.Shape.{Shape}
 use Rattle.geom_core.specs.Cells.{line, IsIn}
-use Rattle.geom_core.specs.Shapes.{x1, y1, x2, y2, AreCorners, HasCorners}
+use Rattle.geom_core.specs.Shapes.{AreCorners, HasCorners}
 use Rattle.plane_core.specs.declared.vertex.Vertex.{Vertex}
 use Rattle.plane_core.specs.declared.outline.Kind.{Kind}
 use Rattle.plane_core.specs.declared.outline.Kind.TheVariants.{Points as Dots, Lines as Polylines, Areas as RingKind}

@@ -1,7 +1,8 @@
 -- The parts by an outline are those of the geometry.
-use Rattle.std.proofs.Common.{◌≡◌, ◌+◌, arith, refl, ap, sym, ◌∙◌, cond, List, [], ◌∷◌}
-use Rattle.std.specs.Prelude.{ℕ, count_by, sum_by, if◌then◌else◌}
+use Rattle.std.proofs.Common.{◌≡◌, ◌+◌, ◌<◌, ◌≤◌, Bool, true, false, ◌||◌, arith, refl, ap, sym, ◌∙◌, cond, List, [], ◌∷◌}
+use Rattle.std.specs.Prelude.{ℕ, count_by, sum_by, nat_lt, if◌then◌else◌}
 use Rattle.std.specs.List.{list_any, flat_map}
+use Rattle.std.proofs.lemmas.Bool.Decides.{nat_tests}
 use Rattle.std.proofs.lemmas.List.Sums.{sum_by-cons, sum_by-append}
 use Rattle.plane_core.specs.declared.vertex.Vertex.{Vertex}
 use Rattle.plane_core.specs.declared.edge.Edge.{Edge}
@@ -10,9 +11,37 @@ use Rattle.plane_core.specs.declared.outline.Kind.{Kind}
 use Rattle.plane_core.specs.declared.outline.Kind.TheVariants.{Points as Dots, Lines as Polylines, Areas as Rings}
 use Rattle.plane_core.specs.declared.outline.Outline.{Outline}
 use Rattle.plane_core.specs.Points.{Point, is_on, is_at}
-use Rattle.plane_core.specs.Figures.{Figure, edges, part_of, part_above, is_odd, end_count, last_count, last_or}
+use Rattle.plane_core.specs.Figures.{Figure, edges, part_of, part_above, points_part, is_odd, end_count, last_count, last_or}
 use Rattle.plane_core.specs.Figures.Figure.{Points, Lines, Areas}
-use Rattle.plane_core.specs.Outlines.{IsOutlineOf, path_ends, part_by, above_by, outline_part, outline_above}
+use Rattle.plane_core.specs.Outlines.{IsOutlineOf, path_ends, count_at, part_by, above_by, outline_part, outline_above}
+
+-- an item passes a test if and only if at least one does
+pub any_count : {T : Type 0} (f : T → Bool) (xs : List T) → list_any f xs ≡ nat_lt 0 (count_by f xs)
+any_count f [] = refl
+any_count f (x ∷ xs) = plain (f x) (list_any f xs) (count_by f xs) (count_by f (x ∷ xs)) (any_count f xs) (sum_by-cons (λ y. cond {A = ℕ} (f y) 1 0) x xs)
+  where
+    plain : (t s : Bool) (n m : ℕ) → s ≡ nat_lt 0 n → m ≡ cond {A = ℕ} t 1 0 + n → (t || s) ≡ nat_lt 0 m
+    plain true s n m h e = positive m n e
+      where
+        positive : (m n : ℕ) → m ≡ 1 + n → true ≡ nat_lt 0 m
+        positive m n e = grind (arith, nat_tests)
+    plain false s n m h e = rw (e ∙ from_zero n) h
+      where
+        from_zero : (n : ℕ) → 0 + n ≡ n
+        from_zero n = omega arith
+
+-- single points by their number at a point
+pub some_here : (vs : List Vertex) (p : Point) (here : ℕ) → here ≡ count_at vs p → 0 < here → Interior ≡ points_part vs p
+some_here vs p here is h = rw (any_count (λ v. is_at v p) vs, sym is) (plain here h)
+  where
+    plain : (n : ℕ) → 0 < n → Interior ≡ (if nat_lt 0 n then Interior else Exterior)
+    plain n h = grind (arith, nat_tests)
+
+pub none_here : (vs : List Vertex) (p : Point) (here : ℕ) → here ≡ count_at vs p → here ≤ 0 → Exterior ≡ points_part vs p
+none_here vs p here is h = rw (any_count (λ v. is_at v p) vs, sym is) (plain here h)
+  where
+    plain : (n : ℕ) → n ≤ 0 → Exterior ≡ (if nat_lt 0 n then Interior else Exterior)
+    plain n h = grind (arith, nat_tests)
 
 last_end : (a : Vertex) (rest : List Vertex) (p : Point) → last_count (a ∷ rest) p ≡ cond (is_at (last_or a rest) p) 1 0
 last_end a [] p = refl

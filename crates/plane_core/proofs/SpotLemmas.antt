@@ -1,12 +1,12 @@
 -- The tests of a point by the integers next to its coordinates, and edges above and below it.
-use Rattle.std.proofs.Common.{◌≡◌, ◌≤◌, ◌<◌, ◌*◌, ◌+◌, ◌/◌, ℕ, to_z, of_z, w64, true, false, arith, ap, sym, subst, refl, ◌∙◌}
+use Rattle.std.proofs.Common.{◌≡◌, ◌<◌, ℕ, true, false, arith, sym, refl, ◌∙◌}
 use Rattle.std.specs.Prelude.{ℤ, pos, Bool, ◌&&◌, ◌||◌, ◌*ℤ◌, ◌-ℤ◌, ◌+ℤ◌, neg_ℤ, ◌<ℤ◌, ◌≤ℤ◌, int_lt, int_le, nat_abs}
 use Rattle.std.specs.Ordering.{int_eq}
 use Rattle.std.proofs.lemmas.Int.{ints, by_lt_z}
 use Rattle.plane_core.specs.declared.edge.Edge.{Edge}
 use Rattle.plane_core.specs.declared.place.Place.{Place}
 use Rattle.plane_core.specs.declared.place.Lie.{Lie}
-use Rattle.plane_core.specs.Points.{Point, side, is_on, is_between, is_from_to}
+use Rattle.plane_core.specs.Points.{Point, side, is_between, is_from_to}
 use Rattle.plane_core.specs.Places.{IsLie}
 use Rattle.plane_core.specs.Spots.{IsFloor, IsCeiling, are_above, are_below}
 use Rattle.plane_core.proofs.Ring.{monomials}

@@ -12,7 +12,7 @@ use Rattle.plane_core.specs.declared.place.Lie.{Lie}
 use Rattle.plane_core.specs.Limits.{greatest_coordinate, greatest_turn, greatest_width}
 use Rattle.plane_core.specs.Points.{Point, side, at, is_on, is_between, is_from_to}
 use Rattle.plane_core.specs.Places.{point_of, IsLie}
-use Rattle.plane_core.proofs.Ring.{one-times}
+use Rattle.plane_core.proofs.Ring.{one-times, times-one, times_comm}
 use Rattle.plane_core.proofs.HeldLemmas.{held_below, held_way, held_turn, turn_below, abs_positive}
 
 pub held_x : (v : Vertex) → to_z w64 (of_z w64 v.x) ≡ v.x
@@ -103,6 +103,14 @@ level_test r x w v hw b e = zero_bits r b ∙ rw (abs_positive w hw) (level_plai
 -- a point and an edge
 cmp_difference : (m n : ℤ) → int_cmp m n ≡ int_cmp (m -ℤ n) (pos 0)
 cmp_difference m n = grind (arith, ints)
+
+-- a point and a vertex along an axis
+pub run_order : (o : Ordering) (r x w v : ℤ) → pos 0 <ℤ w → nat_abs r ≤ greatest_offset → r ≡ x -ℤ w *ℤ v
+    → o ≡ int_cmp (to_z w128 (of_z w128 r)) (pos 0) → o ≡ int_cmp (x *ℤ pos 1) (v *ℤ pos (nat_abs w))
+run_order o r x w v hw b e f =
+    let plain : o ≡ int_cmp r (pos 0) = rw (held_offset r b) at f in
+    rw (abs_positive w hw, times-one x, times_comm v w)
+    (plain ∙ ap (λ (z : ℤ). int_cmp z (pos 0)) e ∙ sym (cmp_difference x (w *ℤ v)))
 
 pub side_order : (o : Ordering) (e : Edge) (p : Place) (run rise across up : ℤ)
     → nat_abs run ≤ 2 * greatest_coordinate → nat_abs rise ≤ 2 * greatest_coordinate

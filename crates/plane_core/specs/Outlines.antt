@@ -1,5 +1,5 @@
 -- The parts of a geometry in terms of its outline.
-use Rattle.std.specs.Prelude.{◌≡◌, Bool, List, [], ◌∷◌, count_by, if◌then◌else◌}
+use Rattle.std.specs.Prelude.{◌≡◌, ℕ, Bool, List, [], ◌∷◌, count_by, if◌then◌else◌}
 use Rattle.std.specs.List.{list_any, flat_map}
 use Rattle.plane_core.specs.declared.vertex.Vertex.{Vertex}
 use Rattle.plane_core.specs.declared.edge.Edge.{Edge}
@@ -42,12 +42,16 @@ pub record IsScan (es : List Edge) (p : Point) (s : Scan) : Type 0 where
   pub below : s.is_odd_below ≡ is_odd (count_by (λ e. is_below e p) es)
   pub at_or_below : s.is_odd_at_or_below ≡ is_odd (count_by (λ e. is_at_or_below e p) es)
 
+-- how many vertices equal a point
+abbrev pub count_at : List Vertex → Point → ℕ
+count_at vs p = count_by (λ v. is_at v p) vs
+
 abbrev pub inside : Bool → Part
 inside is_odd = if is_odd then Interior else Exterior
 
 abbrev pub ends_part : List Vertex → List Edge → Point → Part
 ends_part ends es p =
-    if is_odd (count_by (λ v. is_at v p) ends) then Boundary
+    if is_odd (count_at ends p) then Boundary
     else (if list_any (λ e. is_on e p) es then Interior else Exterior)
 
 abbrev pub part_by : Kind → List Vertex → List Edge → Point → Part

@@ -1,12 +1,12 @@
 //! The outline of a geometry: its edges with its points or ends, which decide where a point lies.
 
-ghost use Rattle.std.specs.Prelude.{◌≡◌, List, [], ◌∷◌, ◌++◌, count_by};
-ghost use Rattle.std.specs.List.{list_any};
+ghost use Rattle.std.specs.Prelude.{◌≡◌, ℕ, List, [], ◌∷◌, ◌++◌};
 ghost use Rattle.plane_core.specs.declared.edge.Edge.{Edge};
-ghost use Rattle.plane_core.specs.Points.{Point, is_at};
+ghost use Rattle.plane_core.specs.declared.vertex.Vertex.{Vertex};
+ghost use Rattle.plane_core.specs.Points.{Point};
 ghost use Rattle.plane_core.specs.Places.{point_of};
-ghost use Rattle.plane_core.specs.Outlines.{outline_part, outline_above};
-ghost use Rattle.plane_core.specs.Figures.{is_odd, points_part, areas_part};
+ghost use Rattle.plane_core.specs.Outlines.{outline_part, outline_above, count_at};
+ghost use Rattle.plane_core.specs.Figures.{points_part, areas_part};
 ghost use Rattle.plane_core.specs.Outlines.{IsScan, inside, ends_part, rings_above};
 
 use crate::edge::Edge;
@@ -91,23 +91,11 @@ fn scan_of(edges: &[Edge], p: &Spot) -> Scan
     scan
 }
 
-/// Whether some vertex equals the point.
-fn is_any_at(vertices: &[Vertex], p: &Place) -> bool
-    ensures { result ≡ list_any (λ v. is_at v (point_of p.now)) vertices.now }
+/// The number of vertices that equal a point.
+fn count_at(vertices: &[Vertex], p: &Place) -> usize
+    ensures { result ≡ count_at vertices.now (point_of p.now) }
 {
-    vertices.iter().any(|v| p.is_at(v))
-}
-
-/// Whether the number of vertices equal to the point is odd.
-fn is_odd_at(vertices: &[Vertex], p: &Place) -> bool
-    ensures { result ≡ is_odd (count_by (λ v. is_at v (point_of p.now)) vertices.now) }
-{
-    let mut is_odd = false;
-    for v in vertices {
-        let is_here = p.is_at(v);
-        is_odd = is_odd != is_here;
-    }
-    is_odd
+    vertices.iter().filter(|v| p.is_at(v)).count()
 }
 
 /// The part of rings for a point that is on no edge, by whether an odd number of edges is below it.
@@ -121,11 +109,13 @@ fn inside(is_odd: bool) -> Part
     }
 }
 
-fn points_standing(points: &[Vertex], p: &Place) -> Standing
-    ensures part { result.part ≡ points_part points.now (point_of p.now) }
+/// The standing of a point in single points, from the number of those that equal it.
+fn points_standing(here: usize) -> Standing
+    ensures part { (points : List Vertex) (p : Point) → here ≡ count_at points p
+        → result.part ≡ points_part points p }
     ensures above { result.above ≡ Part.Exterior }
 {
-    let part = if is_any_at(points, p) {
+    let part = if here > 0 {
         Part::Interior
     } else {
         Part::Exterior
@@ -136,13 +126,14 @@ fn points_standing(points: &[Vertex], p: &Place) -> Standing
     }
 }
 
-/// The standing of a point in polylines, from their ends and a scan of their edges.
-fn lines_standing(ends: &[Vertex], p: &Place, scan: Scan) -> Standing
-    ensures part { let q = point_of p.now in
-        (es : List Edge) → IsScan es q scan → result.part ≡ ends_part ends.now es q }
+/// The standing of a point in polylines, from the number of their ends that equal it and a scan of
+/// their edges.
+fn lines_standing(here: usize, scan: Scan) -> Standing
+    ensures part { (ends : List Vertex) (es : List Edge) (p : Point) → here ≡ count_at ends p
+        → IsScan es p scan → result.part ≡ ends_part ends es p }
     ensures above { result.above ≡ Part.Exterior }
 {
-    let part = if is_odd_at(ends, p) {
+    let part = if here % 2 == 1 {
         Part::Boundary
     } else if scan.is_on {
         Part::Interior
@@ -173,24 +164,40 @@ fn areas_standing(scan: Scan) -> Standing
 }
 
 impl Outline {
+    /// The scan of all edges at a point.
+    pub fn scan_at(&self, p: &Place) -> Scan
+        ensures { IsScan self.now.edges.items (point_of p.now) result }
+    {
+        let spot = Spot::of(p);
+        scan_of(&self.edges, &spot)
+    }
+
+    /// The number of the points, or of the ends of polylines, that equal a point.
+    pub fn count_at(&self, p: &Place) -> usize
+        ensures { result ≡ count_at self.now.ends.items (point_of p.now) }
+    {
+        count_at(&self.ends, p)
+    }
+
     /// The part in which a point lies, and the part just above it.
     pub fn standing_at(&self, p: &Place) -> Standing
         ensures part { result.part ≡ outline_part self.now (point_of p.now) }
         ensures above { result.above ≡ outline_above self.now (point_of p.now) }
     {
-        let spot = Spot::of(p);
-        self.standing_by(p, scan_of(&self.edges, &spot))
+        self.standing_by(self.scan_at(p), self.count_at(p))
     }
 
-    /// The same, from a scan of all edges.
-    pub fn standing_by(&self, p: &Place, scan: Scan) -> Standing
-        requires { IsScan self.now.edges.items (point_of p.now) scan }
-        ensures part { result.part ≡ outline_part self.now (point_of p.now) }
-        ensures above { result.above ≡ outline_above self.now (point_of p.now) }
+    /// The same, from a scan of all edges at the point and the number of the points, or of the ends
+    /// of polylines, that equal it.
+    pub fn standing_by(&self, scan: Scan, here: usize) -> Standing
+        ensures part { (p : Point) → IsScan self.now.edges.items p scan
+            → here ≡ count_at self.now.ends.items p → result.part ≡ outline_part self.now p }
+        ensures above { (p : Point) → IsScan self.now.edges.items p scan
+            → result.above ≡ outline_above self.now p }
     {
         match self.kind {
-            Kind::Points => points_standing(&self.ends, p),
-            Kind::Lines => lines_standing(&self.ends, p, scan),
+            Kind::Points => points_standing(here),
+            Kind::Lines => lines_standing(here, scan),
             Kind::Areas => areas_standing(scan),
         }
     }

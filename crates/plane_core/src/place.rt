@@ -36,7 +36,7 @@ impl Place {
     ghost use Rattle.std.specs.Prelude.{◌-ℤ◌, ◌*ℤ◌};
     ghost use Rattle.std.specs.Ordering.{int_cmp};
     ghost use Rattle.plane_core.specs.Points.{at, side, is_at};
-    ghost use Rattle.plane_core.specs.Places.{point_of};
+    ghost use Rattle.plane_core.specs.Places.{point_of, place_order};
 
     /// A vertex.
     #[inline]
@@ -75,6 +75,35 @@ impl Place {
         let level_x = self.run_from(v) == 0;
         let level_y = self.rise_from(v) == 0;
         level_x & level_y
+    }
+
+    /// The order of the point and a vertex along the first axis.
+    fn compare_x(&self, v: &Vertex) -> Ordering
+        ensures { let p = point_of self.now in
+            let q = at v.now in
+            result ≡ int_cmp (p.x *ℤ pos q.w) (q.x *ℤ pos p.w) }
+    {
+        self.run_from(v).cmp(&0)
+    }
+
+    /// The order of the point and a vertex along the second axis.
+    fn compare_y(&self, v: &Vertex) -> Ordering
+        ensures { let p = point_of self.now in
+            let q = at v.now in
+            result ≡ int_cmp (p.y *ℤ pos q.w) (q.y *ℤ pos p.w) }
+    {
+        self.rise_from(v).cmp(&0)
+    }
+
+    /// The order of the point and a vertex by first coordinate, and then by second.
+    pub fn compare(&self, v: &Vertex) -> Ordering
+        ensures { result ≡ place_order (point_of self.now) (at v.now) }
+    {
+        match self.compare_x(v) {
+            Ordering::Less => Ordering::Less,
+            Ordering::Equal => self.compare_y(v),
+            Ordering::Greater => Ordering::Greater,
+        }
     }
 
     /// The side of an edge on which the point lies: `Greater` is left, seen from `a` to `b`.

@@ -11,6 +11,7 @@ ghost use Rattle.noding_core.specs.Marks.{rank};
 
 use crate::ends::has_no_outer_end;
 use crate::shown::{are_shown, parts_above};
+use edge_index_core::IndexedOutline;
 use geom_core::Shape;
 use noding_core::column_of;
 use plane_core::{Edge, Kind, Outline, Part};
@@ -28,17 +29,17 @@ fn parts_along(kind: Kind) -> Parts<bool>
 }
 
 /// Whether no polyline ends on an edge.
-fn has_no_end(own: &Outline, e: &Edge) -> bool
+fn has_no_end(own: &IndexedOutline, e: &Edge) -> bool
     ensures { result ≡ has_no_end own.now e.now }
 {
-    own.ends.iter().all(|v| !e.is_on_vertex(v))
+    !own.has_end_on(e)
 }
 
 /// The same for polylines; true for other kinds.
-pub fn is_free(own: &Outline, e: &Edge) -> bool
+pub fn is_free(own: &IndexedOutline, e: &Edge) -> bool
     ensures { IsTrue result → own.now.kind ≡ Kind.Lines → IsTrue (has_no_end own.now e.now) }
 {
-    match own.kind {
+    match own.outline().kind {
         Kind::Lines => has_no_end(own, e),
         Kind::Points => true,
         Kind::Areas => true,
@@ -57,13 +58,14 @@ fn are_faces_in(column: &Parts<Extent>, kind: Kind, e: &Edge) -> bool
 }
 
 /// Whether a matrix has all that an edge can show of a part of the other geometry.
-pub fn is_edge_shown(matrix: &Matrix, own: &Outline, part: Part, e: &Edge) -> bool
+pub fn is_edge_shown(matrix: &Matrix, own: &IndexedOutline, part: Part, e: &Edge) -> bool
     ensures { IsTrue result → IsEdgeShown matrix.now own.now part e.now }
 {
     let column = column_of(matrix, part);
+    let kind = own.outline().kind;
     if is_free(own, e) {
-        if are_faces_in(&column, own.kind, e) {
-            are_shown(&column, &parts_along(own.kind), Extent::Line)
+        if are_faces_in(&column, kind, e) {
+            are_shown(&column, &parts_along(kind), Extent::Line)
         } else {
             false
         }

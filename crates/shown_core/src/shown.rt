@@ -1,24 +1,24 @@
 //! Whether a matrix already includes all that a point could add to it.
 
-ghost use Rattle.std.specs.Prelude.{◌≡◌, ◌≤◌, ◌↔◌, pos, not, All, IsTrue, count_by};
+ghost use Rattle.std.specs.Prelude.{◌≡◌, ◌≤◌, ◌↔◌, pos, not, All, IsTrue};
 ghost use Rattle.std.specs.List.{list_all};
 ghost use Rattle.std.specs.Ordering.{int_eq};
 ghost use Rattle.plane_core.specs.declared.outline.Outline.{Outline};
-ghost use Rattle.plane_core.specs.Points.{at, side, turn_of, is_at};
+ghost use Rattle.plane_core.specs.Points.{at, side, turn_of};
 ghost use Rattle.plane_core.specs.Places.{point_of};
-ghost use Rattle.plane_core.specs.Figures.{is_odd};
 ghost use Rattle.plane_core.specs.Outlines.{outline_part};
 ghost use Rattle.plane_core.specs.PlaneMatrices.{pick, entry};
 ghost use Rattle.noding_core.specs.Marks.{rank};
-ghost use Rattle.shown_core.specs.Shown.{AreShown, all_parts, parts_above, rest_parts};
+ghost use Rattle.shown_core.specs.Shown.{AreShown, all_parts, parts_above, is_odd_end, rest_parts};
 ghost use Rattle.shown_core.specs.Shown.{IsOnEdge, IsUncrossed, IsKnownApart};
 ghost use Rattle.shown_core.specs.Shown.{AreFacesShown, IsFaceShown};
 ghost use Rattle.noding_core.specs.Growth.{HasGrownBy, piece_marks};
 ghost use Rattle.noding_core.specs.Near.{IsFound};
 
 use crate::course::Course;
+use edge_index_core::IndexedOutline;
 use noding_core::{rank, row_of};
-use plane_core::{Edge, Kind, Outline, Part, Place, Vertex};
+use plane_core::{Edge, Kind, Part, Place};
 use relation_core::{Extent, Matrix, Parts};
 
 /// The parts that a geometry of a kind has.
@@ -67,19 +67,19 @@ pub fn are_shown(row: &Parts<Extent>, parts: &Parts<bool>, extent: Extent) -> bo
 }
 
 /// Whether a point is the end of an odd number of polylines.
-fn is_odd_end(ends: &[Vertex], p: &Place) -> bool
-    ensures { result ≡ is_odd (count_by (λ v. is_at v (point_of p.now)) ends.now) }
+fn is_odd_end(own: &IndexedOutline, p: &Place) -> bool
+    ensures { result ≡ is_odd_end own.now (point_of p.now) }
 {
-    ends.iter().filter(|v| p.is_at(v)).count() % 2 == 1
+    own.count_at(p) % 2 == 1
 }
 
 /// The parts in which a point that is on no edge can lie.
-fn rest_parts(other: &Outline, p: &Place) -> Parts<bool>
+fn rest_parts(other: &IndexedOutline, p: &Place) -> Parts<bool>
     ensures { result ≡ rest_parts other.now (point_of p.now) }
 {
-    match other.kind {
+    match other.outline().kind {
         Kind::Lines => {
-            let is_end = is_odd_end(&other.ends, p);
+            let is_end = is_odd_end(other, p);
             Parts {
                 interior: false,
                 boundary: is_end,
@@ -95,14 +95,14 @@ fn rest_parts(other: &Outline, p: &Place) -> Parts<bool>
 }
 
 /// The part of a geometry in which a point of one of its edges lies.
-pub fn part_on_edge(own: &Outline, p: &Place) -> Part
+pub fn part_on_edge(own: &IndexedOutline, p: &Place) -> Part
     requires { IsOnEdge own.now (point_of p.now) }
     ensures { result ≡ outline_part own.now (point_of p.now) }
 {
-    match own.kind {
+    match own.outline().kind {
         Kind::Points => own.standing_at(p).part,
         Kind::Lines => {
-            if is_odd_end(&own.ends, p) {
+            if is_odd_end(own, p) {
                 Part::Boundary
             } else {
                 Part::Interior
@@ -113,14 +113,21 @@ pub fn part_on_edge(own: &Outline, p: &Place) -> Part
 }
 
 /// Whether a matrix includes the line on which a point of an edge lies, of which one part is known.
-fn is_line_shown(matrix: &Matrix, part: Part, other: &Outline, course: &Course, p: &Place) -> bool
+fn is_line_shown(
+    matrix: &Matrix,
+    part: Part,
+    other: &IndexedOutline,
+    course: &Course,
+    p: &Place,
+) -> bool
     requires uncrossed { IsUncrossed other.now course.now.edge (point_of p.now) }
     requires apart { IsKnownApart other.now course.now }
     ensures { let second = outline_part other.now (point_of p.now) in
         IsTrue result → 2 ≤ rank (entry matrix.now part second) }
 {
     let row = row_of(matrix, part);
-    if are_shown(&row, &all_parts(other.kind), Extent::Line) {
+    let kind = other.outline().kind;
+    if are_shown(&row, &all_parts(kind), Extent::Line) {
         true
     } else if course.is_apart {
         are_shown(&row, &rest_parts(other, p), Extent::Line)
@@ -160,8 +167,8 @@ pub fn is_face_shown(matrix: &Matrix, own: Kind, other: Kind, e: &Edge) -> bool
 /// in whichever parts of the other geometry they are.
 pub fn is_piece_shown(
     matrix: &Matrix,
-    own: &Outline,
-    other: &Outline,
+    own: &IndexedOutline,
+    other: &IndexedOutline,
     course: &Course,
     p: &Place,
 ) -> bool
@@ -171,7 +178,9 @@ pub fn is_piece_shown(
     ensures { let marks = piece_marks own.now other.now course.now.edge (point_of p.now) in
         IsTrue result → HasGrownBy marks matrix.now matrix.now }
 {
-    if is_face_shown(matrix, own.kind, other.kind, &course.edge) {
+    let own_kind = own.outline().kind;
+    let other_kind = other.outline().kind;
+    if is_face_shown(matrix, own_kind, other_kind, &course.edge) {
         let part = part_on_edge(own, p);
         is_line_shown(matrix, part, other, course, p)
     } else {

@@ -15,7 +15,7 @@ returns-in-Some c = λ points holds.
     let e = c.args.course.now.edge in
     let one = c.requires.one in
     part_adds_none c.args.matrix.now a b (outline_edges a b) points e _
-    (subst (λ (s : Option Part). IfSome s (LiesIn b e)) c.in-Some.is c.requires.known) (rw c.outline-own.ensures at c.is_edge_shown.ensures holds)
+    (subst (λ (s : Option Part). IfSome s (LiesIn b e)) c.in-Some.is c.requires.known) (c.is_edge_shown.ensures holds)
     one.one (all_among HasLength e (outline_edges a b) one.edges.long (one.edges.first e one.one))
 
 pub returns-then-course : goal.returns-then-course
@@ -23,4 +23,4 @@ returns-then-course c = λ points holds.
     let a = c.args.pair.now.first.now in
     let b = c.args.pair.now.second.now in
     all_add_none c.args.matrix.now a b (outline_edges a b) points c.args.pair.now.second_box c.args.course.now.edge c.args.near.now
-    c.requires.bounded c.requires.one c.requires.found (c.requires.apart c.if-course.true) (rw (c.outline-own.ensures, c.outline.ensures) at c.is_all_shown.ensures holds)
+    c.requires.bounded c.requires.one c.requires.found (c.requires.apart c.if-course.true) (c.is_all_shown.ensures holds)

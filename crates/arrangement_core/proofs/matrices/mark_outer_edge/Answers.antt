@@ -16,7 +16,7 @@ returns-then-is_edge_shown c =
     let e = c.args.e.now in
     let one = c.requires.one in
     part_adds_none c.args.matrix a b (outline_edges a b) _ e _
-    (lies_beyond b c.args.pair.now.second_box e c.requires.bounded c.requires.beyond) (rw c.outline.ensures at c.is_edge_shown.ensures c.if-is_edge_shown.true)
+    (lies_beyond b c.args.pair.now.second_box e c.requires.bounded c.requires.beyond) (c.is_edge_shown.ensures c.if-is_edge_shown.true)
     one.one (all_among HasLength e (outline_edges a b) one.edges.long (one.edges.first e one.one))
 
 pub mark_near_edge-requires-clause-near : goal.mark_near_edge-requires-clause-near

@@ -1,4 +1,4 @@
-use Rattle.std.proofs.Common.{List, take, All}
+use Rattle.std.proofs.Common.{take, All}
 use Rattle.geom_core.specs.declared.shape.Shape.{Shape}
 use Rattle.geom_core.specs.Cells.{IsIn}
 use Rattle.plane_core.specs.Vertices.{HoldsVertex}

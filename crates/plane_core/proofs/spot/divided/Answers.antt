@@ -1,5 +1,5 @@
 use Rattle.std.proofs.Common.{sym, subst}
-use Rattle.std.specs.Prelude.{ℤ, nat_abs}
+use Rattle.std.specs.Prelude.{nat_abs}
 use Rattle.plane_core.specs.Spots.{IsFloor, IsCeiling}
 use Rattle.plane_core.proofs.QuotientLemmas.{is_raised, quotient_small, cast_fits, sub_fits, add_fits, floor_held, ceiling_held, quotient_floor, whole_ceiling, part_ceiling}
 use Rattle.plane_core.proofs.spot.divided.Goals as goal

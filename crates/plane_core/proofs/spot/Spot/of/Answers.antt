@@ -1,5 +1,5 @@
 use Rattle.std.proofs.Common.{◌≡◌, rules, of_z, to_z, w64, sym, subst}
-use Rattle.std.specs.Prelude.{ℤ, nat_abs}
+use Rattle.std.specs.Prelude.{nat_abs}
 use Rattle.std.specs.Int.{w128}
 use Rattle.std.proofs.lemmas.Int.{to_z-of_z}
 use Rattle.plane_core.specs.Spots.{IsFloor, IsCeiling}
