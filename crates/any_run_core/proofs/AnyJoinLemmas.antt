@@ -1,5 +1,6 @@
 -- The matches of a join of any geometry, as a report takes them.
-use Rattle.std.proofs.Common.{◌≡◌, List, All, Result, Ok, Err, IfOk, OnOk, subst, sym}
+use Rattle.std.proofs.Common.{◌≡◌, ℕ, List, [], ◌∷◌, All, Result, Ok, Err, IfOk, OnOk, refl, subst, sym}
+use Rattle.std.proofs.lemmas.List.Elements.{All-nil, All-cons, All-head, All-tail}
 use Rattle.run_core.specs.declared.fault.RunFault.{RunFault}
 use Rattle.run_core.specs.declared.loaded.SkippedRows.{SkippedRows}
 use Rattle.run_core.specs.declared.loaded.JoinText.{JoinText}
@@ -10,7 +11,9 @@ use Rattle.any_geometry_core.specs.declared.geometry.AnyGeometry.{AnyGeometry}
 use Rattle.any_join_core.specs.Matches.{HasMatrix}
 use Rattle.report_core.specs.AnyMatches.{IsAnyMatch}
 use Rattle.report_core.specs.Reports.{IsHeld}
-use Rattle.join_core.proofs.JoinRunLemmas.{is_some_of}
+use Rattle.filter_core.specs.Joins.{IsJoinList, StandIn}
+use Rattle.refine_core.specs.Refinements.{pairs_of}
+use Rattle.join_core.proofs.JoinRunLemmas.{is_some_of, pairs_held}
 
 -- each match comes with the matrix of its features
 pub are_matches : (left right : Contents AnyGeometry) (matches : List (Refined Matrix)) → All (HasMatrix left right) matches
@@ -29,6 +32,17 @@ pub matches_held : (left right : Contents AnyGeometry) (matches : List (Refined 
     → All (λ (found : Refined Matrix). IsHeld left right found.pair) matches
 matches_held left right matches all = λ k d within.
     let has = all k d within in (is_some_of _ has.first has.first_held, is_some_of _ has.second has.second_held)
+
+-- the same, where the pairs of the matches are those of a join
+each_held : {A : Type 0} (P : ℕ × ℕ → Type 0) (matches : List (Refined A)) → All P (pairs_of matches) → All (λ (found : Refined A). P found.pair) matches
+each_held P [] all = All-nil (λ found. P found.pair)
+each_held P (found ∷ rest) all =
+    All-cons (λ m. P m.pair) found rest (All-head P found.pair (pairs_of rest) all) (each_held P rest (All-tail P found.pair (pairs_of rest) all))
+
+pub joined_held : {A : Type 0} (R : AnyGeometry → AnyGeometry → Type 0) (left right : Contents AnyGeometry) (matches : List (Refined A))
+    → IsJoinList (StandIn R left right) (pairs_of matches) → All (λ (found : Refined A). IsHeld left right found.pair) matches
+joined_held R left right matches joined =
+    each_held (IsHeld left right) matches (pairs_held R left right (pairs_of matches) (pairs_of matches) refl joined)
 
 -- what holds of the rows that were skipped holds of those that stand beside the text
 pub rows_handed : (P : SkippedRows → Type 0) (rows : SkippedRows) (out : Result JoinText RunFault) → P rows → IfOk out (λ made. made.skipped ≡ rows)
