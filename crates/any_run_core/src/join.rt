@@ -1,6 +1,6 @@
 //! Joins of two files of layers of any geometry after a file of edits.
 
-ghost use Rattle.std.specs.Prelude.{◌≡◌, ◌<◌, Ok, Err, false, IfOk, IfErr, IsErrOf, OnOk};
+ghost use Rattle.std.specs.Prelude.{◌≡◌, ◌≢◌, ◌<◌, Ok, Err, false, IfOk, IfErr, IsErrOf, OnOk};
 ghost use Rattle.any_geometry_core.specs.declared.geometry.AnyGeometry.{AnyGeometry};
 ghost use Rattle.any_relation_core.specs.AnyRelations.{rings_of};
 ghost use Rattle.format_core.specs.Formats.{ReadsAny};
@@ -12,7 +12,7 @@ ghost use Rattle.run_core.specs.Inputs.{BlamesInput};
 ghost use Rattle.run_core.specs.EditedLayers.{AreRowsSkipped, files_by, files_of, skipped_lists};
 ghost use Rattle.run_core.specs.Marks.{AreRowsMarked, marked_lists};
 ghost use Rattle.join_core.specs.Products.{ProductGives, IsProduct, IsProductFault};
-ghost use Rattle.join_core.specs.Products.{IsLateProductFault};
+ghost use Rattle.join_core.specs.Products.{IsFew, IsLateProductFault};
 ghost use Rattle.run_core.specs.Runs.{NoTextFault, RunEnds};
 ghost use Rattle.run_core.specs.SourceStates.{AreFresh, HasFailed, TellsFailures};
 ghost use Rattle.run_core.specs.Texts.{bytes_of_text};
@@ -25,7 +25,7 @@ use file_core::{LayerReader, Unreadable};
 use format_core::AnyFormat;
 use join_core::{JoinJob, Output, can_be_made};
 use layer_core::Layer;
-use options_core::Product;
+use options_core::{Options, Product};
 use report_core::Sink;
 use row_core::Source;
 use run_core::{
@@ -173,14 +173,46 @@ fn product<R: AllocGlobal + Threads + Wait + Sync>(
     };
     let relation = &condition.relation;
     match product {
-        Product::Report => {
-            let outcome = join_any(rt, left, right, relation, options)?;
-            output.text(left, right, outcome.matches.as_slice())
-        }
-        // Neither shows a matrix.
-        Product::Pairs | Product::Picture => {
-            let outcome = join_any_pairs(rt, left, right, relation, options)?;
-            output.pair_text(left, right, outcome.matches.as_slice())
-        }
+        Product::Report => report(&output, left, right, relation, options),
+        Product::Pairs => without_matrices(&output, left, right, relation, options),
+        Product::Picture => without_matrices(&output, left, right, relation, options),
     }
+}
+
+/// The report of the pairs with their matrices.
+fn report<R: AllocGlobal + Threads + Wait + Sync>(
+    output: &Output<'_, R>,
+    left: &Layer<AnyGeometry>,
+    right: &Layer<AnyGeometry>,
+    relation: &AnyRelation,
+    options: &Options,
+) -> Result<Text, RunFault>
+    requires { output.now.product ≡ Product.Report }
+    ensures ok { let joining = any_joining relation.now in
+        let layers = both left.now.list right.now.list in
+        IfOk result (λ text. IsProduct output.now.product joining layers (bytes_of_text text)) }
+    ensures err { IfErr result (IsLateProductFault output.now.product) }
+{
+    let outcome = join_any(output.rt, left, right, relation, options)?;
+    output.text(left, right, outcome.matches.as_slice())
+}
+
+/// The report of the pairs alone, or the picture.
+fn without_matrices<R: AllocGlobal + Threads + Wait + Sync>(
+    output: &Output<'_, R>,
+    left: &Layer<AnyGeometry>,
+    right: &Layer<AnyGeometry>,
+    relation: &AnyRelation,
+    options: &Options,
+) -> Result<Text, RunFault>
+    requires product { output.now.product ≢ Product.Report }
+    requires few { IsFew output.now.product (both left.now.list right.now.list) }
+    ensures ok { let joining = any_joining relation.now in
+        let layers = both left.now.list right.now.list in
+        IfOk result (λ text. IsProduct output.now.product joining layers (bytes_of_text text)) }
+    ensures err { IfErr result (IsLateProductFault output.now.product) }
+    ensures few { ¬ (IsErrOf result RunFault.TooManyToDraw) }
+{
+    let outcome = join_any_pairs(output.rt, left, right, relation, options)?;
+    output.pair_text(left, right, outcome.matches.as_slice())
 }

@@ -32,6 +32,14 @@ IsMadeOf Pairs is_matrix drawing layers pairs text =
 IsMadeOf Picture is_matrix drawing layers pairs text =
     text ≡ picture_of drawing layers.left layers.right pairs
 
+-- the same of what shows no matrix, so that none has to be known
+abbrev pub IsMadeOfPairs : {G : Type 0} → Product → Drawing G → Layers G → List (ℕ × ℕ) → List ℕ
+    → Type 0
+IsMadeOfPairs Report drawing layers pairs text = ⊥
+IsMadeOfPairs Pairs drawing layers pairs text = IsPairReport layers.left layers.right pairs text
+IsMadeOfPairs Picture drawing layers pairs text =
+    text ≡ picture_of drawing layers.left layers.right pairs
+
 -- a picture doesn't have too many features
 abbrev pub IsFew : {G : Type 0} → Product → Layers G → Type 0
 IsFew Report layers = ⊤

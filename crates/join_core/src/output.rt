@@ -1,13 +1,12 @@
 //! The output made of the pairs of two layers.
 
 ghost use Rattle.std.specs.Prelude.{◌≡◌, ◌≢◌, ◌<◌, true, false, All, IfOk, IfErr, map};
-ghost use Rattle.relation_core.specs.declared.matrix.Matrix.{Matrix};
 ghost use Rattle.layer_core.specs.Edits.{both};
 ghost use Rattle.draw_core.specs.Drawings.{drawing_by};
 ghost use Rattle.draw_core.specs.Limits.{most_drawn};
 ghost use Rattle.report_core.specs.Reports.{IsHeld};
 ghost use Rattle.join_core.specs.DrawRuns.{features_of};
-ghost use Rattle.join_core.specs.Products.{IsFew, IsLateProductFault, IsMadeOf};
+ghost use Rattle.join_core.specs.Products.{IsFew, IsLateProductFault, IsMadeOf, IsMadeOfPairs};
 ghost use Rattle.run_core.specs.Texts.{bytes_of_text};
 
 use draw_core::{Drawn, can_be_drawn, picture};
@@ -52,7 +51,8 @@ impl<R: AllocGlobal + Threads + Sync> Output<'_, R> {
                 let texts = report_texts(self.rt, left, right, matches, self.workers)?;
                 Ok(Text::Report(texts))
             }
-            Product::Pairs | Product::Picture => self.pair_text(left, right, matches),
+            Product::Pairs => self.pair_text(left, right, matches),
+            Product::Picture => self.pair_text(left, right, matches),
         }
     }
 
@@ -70,15 +70,15 @@ impl<R: AllocGlobal + Threads + Sync> Output<'_, R> {
         requires product { self.now.product ≢ Product.Report }
         requires held { All (λ found. IsHeld left.now.list right.now.list (M.pair_of found))
             matches.now }
-        ensures ok { (is_matrix : G → G → Matrix → Type 0) →
-            let drawing = drawing_by G.box_of G.start_of G.path_of in
-            let made = IsMadeOf self.now.product is_matrix drawing in
+        ensures ok { let drawing = drawing_by G.box_of G.start_of G.path_of in
+            let made = IsMadeOfPairs self.now.product drawing in
             let layers = both left.now.list right.now.list in
             IfOk result (λ text. made layers (map M.pair_of matches.now) (bytes_of_text text)) }
         ensures err { IfErr result (λ f. f ≡ RunFault.Memory) }
     {
         match self.product {
-            Product::Report | Product::Pairs => {
+            Product::Report => unreachable!(),
+            Product::Pairs => {
                 let texts = report_pairs(self.rt, left, right, matches, self.workers)?;
                 Ok(Text::Report(texts))
             }

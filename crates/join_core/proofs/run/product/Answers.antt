@@ -4,11 +4,11 @@ use Rattle.join_core.proofs.JoinRunLemmas.{pairs_held}
 use Rattle.join_core.proofs.ProductLemmas.{made_of_pairs}
 use Rattle.join_core.proofs.run.product.Goals as goal
 
-pub text-requires-clause-matches-after_bounds : goal.text-requires-clause-matches-after_bounds
-text-requires-clause-matches-after_bounds g c κs within = pairs_held _ _ _ _ _ c.pairs.ensures c.in_ok-outcome.ensures.pairs
+pub text-requires-clause-matches : goal.text-requires-clause-matches
+text-requires-clause-matches g c κs within = pairs_held _ _ _ _ _ c.pairs.ensures c.in_ok-outcome.ensures.pairs
 
-pub text-requires-clause-held-after_bounds : goal.text-requires-clause-held-after_bounds
-text-requires-clause-held-after_bounds g c κs within = pairs_held _ _ _ _ _ c.pairs.ensures c.in_ok-outcome.ensures.pairs
+pub text-requires-clause-held : goal.text-requires-clause-held
+text-requires-clause-held g c κs within = pairs_held _ _ _ _ _ c.pairs.ensures c.in_ok-outcome.ensures.pairs
 
 pub returns-clause-ok : goal.returns-clause-ok
 returns-clause-ok g c =
