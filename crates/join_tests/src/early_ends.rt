@@ -1,5 +1,6 @@
 //! Answers that need no more of a matrix than tells them, beside the whole matrix.
 
+ghost use Rattle.std.specs.Prelude.{◌≡◌, IfSome};
 ghost use Rattle.any_geometry_core.specs.AnyGeometries.{figure_of};
 ghost use Rattle.any_join_core.specs.PreparedPairs.{AreOf};
 
@@ -72,22 +73,51 @@ fn agree(
     Some(true)
 }
 
-/// The same for the geometries of these texts, both prepared, one of them, or none.
+/// The same with both geometries prepared, one of them, or none.
+fn agree_by_all_forms(
+    alloc: Global,
+    first: &AnyGeometry,
+    second: &AnyGeometry,
+    first_form: &PreparedGeometry,
+    second_form: &PreparedGeometry,
+) -> Option<bool>
+    requires first { first_form.now ≡ figure_of first.now }
+    requires second { second_form.now ≡ figure_of second.now }
+{
+    let (a, b) = (Some(first_form), Some(second_form));
+    let none = agree(alloc, first, second, pair(None, None))?;
+    let left = agree(alloc, first, second, pair(a, None))?;
+    let right = agree(alloc, first, second, pair(None, b))?;
+    let both = agree(alloc, first, second, pair(a, b))?;
+    Some(none && left && right && both)
+}
+
+fn pair<'a>(
+    first: Option<&'a PreparedGeometry<'a>>,
+    second: Option<&'a PreparedGeometry<'a>>,
+) -> PreparedPair<'a>
+    ensures first { result.first ≡ first.entry }
+    ensures second { result.second ≡ second.entry }
+{
+    PreparedPair { first, second }
+}
+
+fn prepared<'a>(alloc: Global, geometry: &'a AnyGeometry) -> Option<PreparedGeometry<'a>>
+    ensures { IfSome result (λ form. form ≡ figure_of geometry.now) }
+{
+    match PreparedGeometry::new(alloc, geometry.geometry()) {
+        Ok(form) => Some(form),
+        Err(_) => None,
+    }
+}
+
+/// The same for the geometries of these texts.
 fn all_agree(alloc: Global, first: &str, second: &str) -> Option<bool> {
     let first = geometry_of(alloc, first, Rings::Proper)?;
     let second = geometry_of(alloc, second, Rings::Proper)?;
-    let prepared_first = PreparedGeometry::new(alloc, first.geometry()).ok()?;
-    let prepared_second = PreparedGeometry::new(alloc, second.geometry()).ok()?;
-    for (has_first, has_second) in [(false, false), (false, true), (true, false), (true, true)] {
-        let prepared = PreparedPair {
-            first: has_first.then_some(&prepared_first),
-            second: has_second.then_some(&prepared_second),
-        };
-        if !agree(alloc, &first, &second, prepared)? {
-            return Some(false);
-        }
-    }
-    Some(true)
+    let first_form = prepared(alloc, &first)?;
+    let second_form = prepared(alloc, &second)?;
+    agree_by_all_forms(alloc, &first, &second, &first_form, &second_form)
 }
 
 #[test]
