@@ -131,6 +131,9 @@ def small_joins(program: Path, count: int) -> Iterator[tuple[str, str | None]]:
     for number in range(count):
         join, source = any_layers.join_of(number), random.Random(number)
         awaited = plain_joins.answer(words_of(join, WORKERS[0], source), join.files.__getitem__)
+        alone = [*words_of(join, source.choice(WORKERS), source), "--pairs"]
+        pairs = plain_joins.answer(alone, join.files.__getitem__)
+        yield f"join {number} for pairs alone", wrong(ran(program, join.files, alone), pairs)
         for workers in WORKERS:
             words = words_of(join, workers, source)
             yield f"{join.name}: {' '.join(words)}", wrong(ran(program, join.files, words), awaited)

@@ -16,7 +16,7 @@ import io
 import math
 import re
 import sys
-from collections.abc import Callable, Iterator
+from collections.abc import Callable, Iterator, Sequence
 from dataclasses import dataclass
 from fractions import Fraction
 from itertools import combinations
@@ -158,7 +158,7 @@ def decimal_of(units: int, digits: int) -> str:
     return ("-" if units < 0 else "") + str(whole) + (f".{decimals}" if decimals else "")
 
 
-def report(rows: list[tuple[str, str, str]]) -> bytes:
+def report(rows: Sequence[tuple[str, ...]]) -> bytes:
     return "".join(",".join(map(field_of, row)) + "\n" for row in rows).encode()
 
 
@@ -207,6 +207,7 @@ def options_of(words: list[str]) -> argparse.Namespace:
         command.add_argument("--round", action="store_true")
     commands.choices["window"].add_argument("wkt")
     commands.choices["join"].add_argument("--relation", required=True)
+    commands.choices["join"].add_argument("--pairs", action="store_true")
     commands.choices["near"].add_argument("--distance", required=True)
     commands.choices["near"].add_argument("--apart", action="store_true")
     commands.choices["nearest"].add_argument("--distance")
@@ -232,7 +233,10 @@ def answer(words: list[str], read: Callable[[str], bytes]) -> bytes:
         return report([("left", "right", "distance"), *near_pairs(first, others[0], options, scale)])
     if options.command == "nearest":
         return report([("left", "right", "distance"), *nearest_pairs(first, others[0], options, scale)])
-    return report([("left", "right", "matrix"), *matches(first, others[0], options.relation)])
+    found = [("left", "right", "matrix"), *matches(first, others[0], options.relation)]
+    if options.pairs:
+        return report([record[:2] for record in found])
+    return report(found)
 
 
 def main(words: list[str]) -> int:
