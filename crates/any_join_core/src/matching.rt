@@ -50,13 +50,7 @@ pub fn related(
     ensures matrix { IfOk result (λ found. IfSome found
         (IsPlaneMatrix (figure_of first.now) (figure_of second.now))) }
 {
-    if !takes_rings(relation, first) {
-        return Ok(None);
-    }
-    if !takes_rings(relation, second) {
-        return Ok(None);
-    }
-    if !may_be_related(relation, first, second) {
+    if !may_stand(relation, first, second) {
         return Ok(None);
     }
     fitting(alloc, relation, first, second, prepared)
@@ -78,16 +72,22 @@ pub fn are_related(
     ensures { IfOk result (λ answer. IsTrue answer
         ↔ AreRelated relation.now first.now second.now) }
 {
-    if !takes_rings(relation, first) {
-        return Ok(false);
-    }
-    if !takes_rings(relation, second) {
-        return Ok(false);
-    }
-    if !may_be_related(relation, first, second) {
+    if !may_stand(relation, first, second) {
         return Ok(false);
     }
     holds(alloc, relation, first, second, prepared)
+}
+
+/// Whether two geometries may stand in a relation, by the rules for their rings and by their
+/// envelopes.
+fn may_stand(relation: &AnyRelation, first: &AnyGeometry, second: &AnyGeometry) -> bool
+    ensures first { IsTrue result → TakesRule (allowed relation.now) (rings_of first.now) }
+    ensures second { IsTrue result → TakesRule (allowed relation.now) (rings_of second.now) }
+    ensures none_lost { AreRelated relation.now first.now second.now → IsTrue result }
+{
+    takes_rings(relation, first)
+        && takes_rings(relation, second)
+        && may_be_related(relation, first, second)
 }
 
 /// Whether two geometries may stand in a relation, by their envelopes.
@@ -209,8 +209,8 @@ fn fitting_forms(
     }
 }
 
-/// Whether one of some masks fits the matrix of two geometries of layers. Those that aren't prepared
-/// are prepared for this alone.
+/// Whether one of some masks fits the matrix of two geometries of layers. Those that aren't
+/// prepared are prepared for this alone.
 fn fits_forms(
     alloc: Global,
     question: &Question,

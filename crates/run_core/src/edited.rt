@@ -135,7 +135,7 @@ fn rows_of<G: Geometry, M: Marks<G>>(
     })
 }
 
-/// Both layers after the edits of a file in order, if there is one, up to the first that is refused.
+/// Both layers after the edits of a file in order, if there is one, up to the first refused one.
 fn edit_layers<F: Format, E: Source>(
     alloc: Global,
     format: F,
