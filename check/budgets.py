@@ -2,27 +2,22 @@
 """Sees that the proof of no crate takes more processor time than its budget.
 
     check/budgets.py            judges the times that check/proofs.py wrote last
-    check/budgets.py --write    makes the list of budgets anew from these times: after `check/proofs.py --anew`, which
-                                proves every crate, on a quiet machine
+    check/budgets.py --write    makes the list of budgets anew from these times, on a quiet machine
 
-check/budgets.txt has a line for each crate: its name and the seconds that its proof took, that of its tests included,
-when the list was made. A crate may take 40% more, and a few seconds. How fast the machine is is told by the time of a
-few low crates, which change seldom, and all is multiplied by it: so a slower machine fails no crate. What was kept from
-an earlier run has no time and is not judged. The last line counts.
+check/budgets.txt has a line for each crate that the gate proves: its name and the seconds that its proof took when the
+list was made. A crate may take twice as long, and a few seconds more. How fast the machine is is told by all crates of
+the run: by the median of their times beside those of the list. So a slower machine fails no crate, and what makes all
+crates slower by the same factor shows in the printed sums alone. The last line counts.
 """
 import sys
 from pathlib import Path
+from statistics import median
 
-from proofs import ROOT, TIMES
-
-sys.path.append(str(ROOT / "tools"))
-
-from crates import uses_by_crate  # noqa: E402
+from proofs import ROOT, TIMES, proved
 
 BUDGETS = ROOT / "check/budgets.txt"
-# The crates whose time tells how fast the machine is.
-REFERENCE = ("geom_core", "wide_core", "relation_core", "number_core")
-HEAD_ROOM = 1.4
+# The time of one machine for the same proof varies by half, with what else runs on it.
+HEAD_ROOM = 2
 # What a crate may take more in any case, since the time of a small one varies most.
 SLACK_SECONDS = 4
 
@@ -35,9 +30,8 @@ def seconds_in(path: Path) -> Seconds:
 
 
 def slowness(took: Seconds, listed: Seconds) -> float:
-    """How many times as long the low crates took as when the list was made, or 0 where none of them was proved."""
-    both = [it for it in REFERENCE if it in took and it in listed]
-    return sum(took[it] for it in both) / sum(listed[it] for it in both) if both else 0
+    """How many times as long the proofs took as when the list was made."""
+    return median([seconds / listed[it] for it, seconds in took.items() if it in listed] or [1])
 
 
 def over(took: Seconds, listed: Seconds, slower: float) -> list[str]:
@@ -50,17 +44,14 @@ def over(took: Seconds, listed: Seconds, slower: float) -> list[str]:
         most = slower * (HEAD_ROOM * listed[crate] + SLACK_SECONDS)
         if seconds > most:
             lines.append(f"{crate}: {seconds:.0f} s, and it may take {most:.0f}: when the list was made it took "
-                         f"{listed[crate]:.0f} s, and the low crates now take {slower:.2f} times as long")
+                         f"{listed[crate]:.0f} s, and crates now take {slower:.2f} times as long")
     return lines
 
 
 def judge(took: Seconds, listed: Seconds) -> int:
-    print(f"{len(took)} crates took {sum(took.values()):.0f} s; when the list was made, {len(listed)} took "
-          f"{sum(listed.values()):.0f} s")
     slower = slowness(took, listed)
-    if not slower:
-        print("nothing is judged: the low crates, which tell how fast the machine is, were kept or lack a budget")
-        took = {}
+    print(f"{len(took)} crates took {sum(took.values()):.0f} s; when the list was made, {len(listed)} took "
+          f"{sum(listed.values()):.0f} s; now they take {slower:.2f} times as long")
     lines = over(took, listed, slower)
     print(*lines, sep="\n", end="\n" if lines else "")
     print(f"budgets: {len(took) - len(lines)} passed, {len(lines)} failed")
@@ -68,24 +59,22 @@ def judge(took: Seconds, listed: Seconds) -> int:
 
 
 def write(took: Seconds) -> int:
-    """Makes the list anew, where each crate has a time."""
-    lacking = [it for it in uses_by_crate() if it not in took]
+    """Makes the list anew, where each crate that the gate proves has a time."""
+    wanted = proved()
+    lacking = [it for it in wanted if it not in took]
     if lacking:
-        sys.exit(f"budgets: the last run took these from an earlier one, so nothing is written: {' '.join(lacking)}")
+        sys.exit(f"budgets: the last run has not proved these, so nothing is written: {' '.join(lacking)}")
     head = "# The processor seconds that the proof of each crate took; check/budgets.py says more.\n"
-    BUDGETS.write_text("".join((head, *(f"{crate} {seconds:.0f}\n" for crate, seconds in took.items()))),
+    BUDGETS.write_text("".join((head, *(f"{crate} {took[crate]:.0f}\n" for crate in sorted(wanted)))),
                        encoding="utf-8")
     return 0
 
 
 def main(words: list[str]) -> int:
-    if not TIMES.is_file():
+    took = {crate: seconds for crate, seconds in seconds_in(TIMES).items() if crate in proved()}
+    if not took:
         sys.exit("budgets: check/proofs.py has written no times")
-    if words == ["--write"]:
-        return write(seconds_in(TIMES))
-    if not BUDGETS.is_file():
-        sys.exit("budgets: there is no list; check/budgets.py --write makes it")
-    return judge(seconds_in(TIMES), seconds_in(BUDGETS))
+    return write(took) if words == ["--write"] else judge(took, seconds_in(BUDGETS))
 
 
 if __name__ == "__main__":

@@ -91,7 +91,9 @@ class Result:
 STEADY = "not test_failures and not test_two_networks"
 PARTS = (
     Part("packages", ("check/install.py",), 20, may_be_skipped=True),
-    Part("proofs", ("check/proofs.py",), 115),
+    Part("proofs", ("check/proofs.py",), 90, whole=("check/proofs.py", "--all")),
+    Part("budgets", ("check/budgets.py",), 2),
+    Part("tests", ("check/tests.py",), 30),
     Part("faults", ("check/faults.py",), 2),
     Part("definitions", ("check/definitions.py", "--check"), 2),
     Part("architecture", ("check/architecture.py", "--check"), 2),

@@ -1,21 +1,31 @@
 #!/usr/bin/env python3
-"""Runs `rt ci` for the whole repository, and writes what processor time the proofs of each crate took.
+"""Proves by `rt ci` the program and all that it rests on, and writes what processor time the proofs of each crate took.
 
-    check/proofs.py [WORDS FOR rt ci]
+    check/proofs.py          of the program and the crates below it, from nothing
+    check/proofs.py --all    of all crates, and so of the tests, which check/tests.py runs without a proof
 
-The status and the last line are those of `rt ci`. The times are read from the system while the proofs run, and go to
-out/proof-times.txt, a line for each crate: its name and seconds, its tests included. What `rt ci` kept from an earlier
-run takes no time, and has no line. check/budgets.py holds the times to the budgets.
+`rt ci` proves each crate that it finds. So it runs in a copy of the repository that has the wanted crates alone, and
+what it has built is moved here afterwards. The status and the last line are those of `rt ci`. The times are read from
+the system while the proofs run, and go to out/proof-times.txt, a line for each crate: its name and seconds, its tests
+included. check/budgets.py holds the times to the budgets.
 """
 import os
+import re
+import shutil
+import signal
 import subprocess
 import sys
+import tempfile
 from collections.abc import Iterator
 from pathlib import Path
 from threading import Event, Thread
 from typing import NamedTuple
 
 ROOT = Path(__file__).resolve().parent.parent
+sys.path.append(str(ROOT / "tools"))
+
+from crates import PROGRAM, below, uses_by_crate  # noqa: E402
+
 TIMES = ROOT / "out/proof-times.txt"
 POLL_SECONDS = 0.5
 TICKS = os.sysconf("SC_CLK_TCK")
@@ -92,9 +102,9 @@ class Watch:
             yield name, sum(seconds for (crate, _), seconds in self.seconds.items() if crate == name)
 
 
-def watched(words: list[str]) -> tuple[int, Watch]:
-    """Runs a command, and returns its status and the times of the proofs below it."""
-    with subprocess.Popen(words, cwd=ROOT) as running:
+def watched(words: list[str], folder: Path) -> tuple[int, Watch]:
+    """Runs a command in a folder, and returns its status and the times of the proofs below it."""
+    with subprocess.Popen(words, cwd=folder) as running:
         watch, has_ended = Watch(running.pid), Event()
 
         def look() -> None:
@@ -111,8 +121,49 @@ def watched(words: list[str]) -> tuple[int, Watch]:
     return status, watch
 
 
+def proved() -> list[str]:
+    """The program and the crates that it rests on."""
+    uses = uses_by_crate()
+    wanted = below(PROGRAM, uses) | {PROGRAM}
+    return [it for it in uses if it in wanted]
+
+
+def copy(crates: list[str], folder: Path) -> None:
+    """Copies what `rt ci` reads of these crates, as if the repository had no others."""
+    for name in crates:
+        shutil.copytree(ROOT / "crates" / name, folder / "crates" / name, ignore=shutil.ignore_patterns("out"))
+    lines = (ROOT / "crates.txt").read_text(encoding="utf-8").splitlines(keepends=True)
+    listed = (line for line in lines if re.split(r"[ :]", line)[0] in crates)
+    (folder / "crates.txt").write_text("".join(listed), encoding="utf-8")
+    shutil.copy(ROOT / "HANDLES", folder)
+
+
+def take(crates: list[str], folder: Path) -> None:
+    """Moves what was built of these crates to where the repository has it."""
+    for name in crates:
+        there = folder / "crates" / name / "out"
+        for built in sorted(there.iterdir()) if there.is_dir() else ():
+            here = ROOT / "crates" / name / "out" / built.name
+            if here.is_dir():
+                shutil.rmtree(here)
+            here.parent.mkdir(exist_ok=True)
+            shutil.move(built, here)
+
+
+def prove_product() -> tuple[int, Watch]:
+    """Proves the program and what it rests on in a copy, and takes what was built, whatever the status is."""
+    crates = proved()
+    with tempfile.TemporaryDirectory(prefix="proofs-") as room:
+        copy(crates, Path(room))
+        try:
+            return watched(["rt", "ci"], Path(room))
+        finally:
+            take(crates, Path(room))
+
+
 def main(words: list[str]) -> int:
-    status, watch = watched(["rt", "ci", *words])
+    signal.signal(signal.SIGTERM, lambda *_: sys.exit(143))
+    status, watch = watched(["rt", "ci"], ROOT) if words == ["--all"] else prove_product()
     TIMES.parent.mkdir(exist_ok=True)
     TIMES.write_text("".join(f"{crate} {seconds:.0f}\n" for crate, seconds in watch.by_crate()), encoding="utf-8")
     return status

@@ -1,6 +1,6 @@
 #!/usr/bin/env python3
-"""Refuses memory, files, reads, writes and threads to what `rt ci` has built, gives the program hostile files and
-outputs, and sees that each run ends as it may. Where `rt ci` has built no tests, those of check/tests.py are taken.
+"""Refuses memory, files, reads, writes and threads to the program, and memory to the tests as check/tests.py has built
+them, gives the program hostile files and outputs, and sees that each run ends as it may.
 
     check/refusals.py            all of it; the last line counts runs
 
@@ -33,9 +33,8 @@ SECONDS = 20
 LONG_SECONDS = 120
 SWEEPS = 5
 MOST_WRONG = 5
-TESTS = f"{ROOT}/crates/*_tests/out/*_tests_tests"
-# Those of check/tests.py, which refuse memory to themselves.
-OWN_TESTS = f"{ROOT}/out/tests/*_tests"
+# The tests as check/tests.py has built them, with what refuses memory linked in.
+TESTS = f"{ROOT}/out/tests/*_tests"
 NAMED = re.compile(r"refused|growth|without_memory")
 STOPPED = b"test stopped at "
 NOBODY = 65534
@@ -174,17 +173,16 @@ def swept(it: Sweep) -> Tally:
     return tally
 
 
-def test_tasks(shim: str, room: str) -> list[Sweep]:
-    """The sweeps over the tests that are named for refused memory, as `rt ci` or else check/tests.py has built them."""
-    tasks, by_ci = [], sorted(glob(TESTS))
-    shim = shim if by_ci else ""
-    for built in by_ci or sorted(glob(OWN_TESTS)):
+def test_tasks(room: str) -> list[Sweep]:
+    """The sweeps over the tests that are named for refused memory."""
+    tasks = []
+    for built in sorted(glob(TESTS)):
         program = shutil.copy(built, room)
         for name in re.findall(r"^(.*): test$", ran([program, "--list"]).output.decode(), re.MULTILINE):
             if NAMED.search(name):
                 words, label = [program, name], f"{os.path.basename(program)}, {name}"
-                tasks.append(Sweep(shim, label, words, "memory", "once", passes))
-                tasks.append(Sweep(shim, label, words, "memory", "on", stops))
+                tasks.append(Sweep("", label, words, "memory", "once", passes))
+                tasks.append(Sweep("", label, words, "memory", "on", stops))
     return tasks
 
 
@@ -639,13 +637,13 @@ def summed(tallies: list[Tally], what: str) -> Tally:
 
 def main() -> int:
     built = f"{ROOT}/crates/rjoin/out/rjoin"
-    if not os.path.isfile(built) or not glob(TESTS) + glob(OWN_TESTS):
-        sys.exit("refusals: rt ci has left no program, or neither it nor check/tests.py has left tests to run")
+    if not os.path.isfile(built) or not glob(TESTS):
+        sys.exit("refusals: no program is built, or check/tests.py has left no tests to run")
     with tempfile.TemporaryDirectory(prefix="refusals-") as room:
         os.chmod(room, 0o755)
         shim, program = compiled(room), shutil.copy(built, room)
         write_files(room)
-        tests, lines = test_tasks(shim, room), program_tasks(shim, program)
+        tests, lines = test_tasks(room), program_tasks(shim, program)
         with ThreadPoolExecutor(len(os.sched_getaffinity(0))) as pool:
             done = list(pool.map(swept, [*tests, *lines]))
         done, refused = done[: len(tests)], done[len(tests):]

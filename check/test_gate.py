@@ -235,48 +235,70 @@ class Budgets(unittest.TestCase):
             for verb in ("build", "check"):
                 Path(room, verb).write_text(PROOF, encoding="utf-8")
             words = [f"{room}/rattle", "build", "--crate-name", "one"]
-            how = patch.multiple(proofs, ROOT=room, POLL_SECONDS=0.05)
+            how = patch.multiple(proofs, POLL_SECONDS=0.05)
             with how, subprocess.Popen(words, cwd=room):
-                status, watch = proofs.watched(["sh", "-c", PROVES.format(room)])
+                status, watch = proofs.watched(["sh", "-c", PROVES.format(room)], Path(room))
         found = dict(watch.by_crate())
         self.assertEqual((status, list(found)), (3, ["one", "two"]))
         for crate, worked in (("one", 1.2), ("two", 0.6)):
             self.assertTrue(0.8 * worked < found[crate] < worked + 0.3, found)
 
-    def judged(self, **took: float) -> tuple[int, list[str]]:
-        """The status, and the crates that are found to take too much."""
-        listed = {"geom_core": 50.0, "large": 100.0, "small": 1.0}
+    def judged(self, low: float, **took: float) -> tuple[int, list[str]]:
+        """The status, and the crates that are found to take too much, where three low crates take so long."""
+        listed = {"one": 50.0, "two": 50.0, "three": 50.0, "large": 100.0, "small": 1.0}
         with redirect_stdout(io.StringIO()) as said:
-            status = budgets.judge(took, listed)
+            status = budgets.judge({"one": low, "two": low, "three": low, **took}, listed)
         return status, [line.split(":")[0] for line in said.getvalue().splitlines()[1:-1]]
 
     def test_a_crate_that_takes_much_more_fails(self) -> None:
-        self.assertEqual(self.judged(geom_core=50, large=139, small=4), (0, []))
-        self.assertEqual(self.judged(geom_core=50, large=150, small=4), (1, ["large"]))
-        self.assertEqual(self.judged(geom_core=50, large=100, small=9), (1, ["small"]))
+        self.assertEqual(self.judged(50, large=200, small=5), (0, []))
+        self.assertEqual(self.judged(50, large=210, small=5), (1, ["large"]))
+        self.assertEqual(self.judged(50, large=100, small=7), (1, ["small"]))
 
     def test_a_slower_machine_fails_no_crate(self) -> None:
-        self.assertEqual(self.judged(geom_core=150, large=390), (0, []))
-        self.assertEqual(self.judged(geom_core=150, large=450), (1, ["large"]))
-        self.assertEqual(self.judged(geom_core=25, large=100), (1, ["large"]))
+        self.assertEqual(self.judged(150, large=600), (0, []))
+        self.assertEqual(self.judged(150, large=630), (1, ["large"]))
+        self.assertEqual(self.judged(25, large=110), (1, ["large"]))
 
     def test_a_crate_without_a_budget_fails(self) -> None:
-        self.assertEqual(self.judged(geom_core=50, new=1), (1, ["new"]))
+        self.assertEqual(self.judged(50, new=1), (1, ["new"]))
 
     def test_the_list_is_made_of_a_run_that_proved_all(self) -> None:
         with tempfile.TemporaryDirectory() as room:
             took, listed = Path(room, "times"), Path(room, "budgets.txt")
-            how = patch.multiple(budgets, TIMES=took, BUDGETS=listed, uses_by_crate=lambda: {"one": [], "two": ["one"]})
+            how = patch.multiple(budgets, TIMES=took, BUDGETS=listed, proved=lambda: ["one", "two"])
             with how:
                 took.write_text("one 7\n", encoding="utf-8")
                 self.assertRaises(SystemExit, budgets.main, ["--write"])
                 self.assertFalse(listed.exists())
-                took.write_text("one 7\ntwo 40\n", encoding="utf-8")
+                took.write_text("one 7\ntests 90\ntwo 40\n", encoding="utf-8")
                 self.assertEqual(budgets.main(["--write"]), 0)
             self.assertEqual(budgets.seconds_in(listed), {"one": 7, "two": 40})
 
-    def test_nothing_is_judged_by_crates_that_were_kept(self) -> None:
-        self.assertEqual(self.judged(large=900), (0, ["nothing is judged"]))
+
+class Proofs(unittest.TestCase):
+    """What the gate proves, and how."""
+
+    def test_the_program_and_what_it_rests_on_are_proved(self) -> None:
+        uses = {"low": [], "tests": ["low"], "program": ["low"], "tool": ["low"]}
+        with patch.multiple(proofs, PROGRAM="program", uses_by_crate=lambda: uses):
+            self.assertEqual(proofs.proved(), ["low", "program"])
+
+    def test_the_proved_crates_are_copied_and_what_was_built_is_taken(self) -> None:
+        with tempfile.TemporaryDirectory() as here, tempfile.TemporaryDirectory() as there:
+            for path in ("crates/one/src/lib.rt", "crates/one/out/old", "crates/two/src/lib.rt", "HANDLES"):
+                Path(here, path).parent.mkdir(parents=True, exist_ok=True)
+                Path(here, path).write_text(path, encoding="utf-8")
+            Path(here, "crates.txt").write_text("# all\none: std\ntwo: one\n", encoding="utf-8")
+            with patch.multiple(proofs, ROOT=Path(here)):
+                proofs.copy(["one"], Path(there))
+                copied = sorted(str(it.relative_to(there)) for it in Path(there).rglob("*") if it.is_file())
+                listed = Path(there, "crates.txt").read_text(encoding="utf-8")
+                Path(there, "crates/one/out/rlib").mkdir(parents=True)
+                proofs.take(["one"], Path(there))
+            built = sorted(it.name for it in Path(here, "crates/one/out").iterdir())
+        self.assertEqual(copied, ["HANDLES", "crates.txt", "crates/one/src/lib.rt"])
+        self.assertEqual((listed, built), ("one: std\n", ["old", "rlib"]))
 
 
 class Tests(unittest.TestCase):

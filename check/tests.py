@@ -1,15 +1,16 @@
 #!/usr/bin/env python3
 """Runs the tests of crates with no proof, as `rt try --test` does: compiled with the checks of AddressSanitizer.
 
-    check/tests.py [CRATE..]     of these crates, or of all that have tests; as many side by side as processors and
-                                 memory allow
+    check/tests.py [CRATE..]     of these crates, or of all that have tests, and so each program that the gate doesn't
+                                 prove, on its file stdin; as many side by side as processors and memory allow
     check/tests.py --try         what `rt try --test` does in this folder, without its check for names, which only gives
                                  hints; for check/tested_mutants.py and the script itself
     check/tests.py --keep FILE   the same, and a program of the tests is kept as FILE, in which check/refusals.py can
                                  refuse allocations
 
 The programs of the tests stay in out/tests/, where check/refusals.py takes them if `rt ci` has built none. A test may
-take 60 seconds. The status is 0 where each test passed. The last line counts.
+take 60 seconds. The status is 0 where each test passed, and each program wrote what its file stdout has. The last line
+counts.
 """
 import os
 import re
@@ -19,6 +20,8 @@ import tempfile
 from concurrent.futures import ThreadPoolExecutor
 from pathlib import Path
 from typing import Any, NamedTuple
+
+from proofs import proved
 
 ROOT = Path(__file__).resolve().parent.parent
 sys.path.append(str(ROOT / "tools"))
@@ -83,6 +86,11 @@ def try_tests(program: str = "") -> int:
             setattr(kit.subprocess, "Popen", real)
 
 
+def tried(crate: str) -> Ended:
+    """Runs the tests of a crate, or the program that it is."""
+    return tested(crate) if has_tests(crate) else ran(crate)
+
+
 def tested(crate: str) -> Ended:
     """Runs the tests of a crate."""
     words = [sys.executable, __file__, "--keep", str(KEPT / crate)]
@@ -95,13 +103,29 @@ def tested(crate: str) -> Ended:
     return Ended(sum(verdict == "ok" for _, verdict in verdicts), failed, ended.stdout if failed else "")
 
 
-def with_tests() -> list[str]:
-    """The crates that have tests, the upper ones first, which take longest."""
-    def has_tests(crate: str) -> bool:
-        sources = (ROOT / "crates" / crate / "src").rglob("*.rt")
-        return any("#[test]" in it.read_text(encoding="utf-8") for it in sources)
+def ran(crate: str) -> Ended:
+    """Runs a program on its file stdin, and compares what it writes with its file stdout."""
+    folder = ROOT / "crates" / crate
+    with open(folder / "stdin", "rb") as given:
+        ended = subprocess.run(["rt", "try"], cwd=folder, stdin=given, capture_output=True, check=False)
+    if ended.returncode == 0 and ended.stdout == (folder / "stdout").read_bytes():
+        return Ended(1, 0, "")
+    return Ended(0, 1, (ended.stderr + ended.stdout).decode(errors="replace"))
 
-    return [it for it in reversed(uses_by_crate()) if has_tests(it)]
+
+def has_tests(crate: str) -> bool:
+    sources = (ROOT / "crates" / crate / "src").rglob("*.rt")
+    return any("#[test]" in it.read_text(encoding="utf-8") for it in sources)
+
+
+def is_own_program(crate: str) -> bool:
+    """Whether the crate is a program that users don't have, and that the gate doesn't prove."""
+    return (ROOT / "crates" / crate / "src/main.rt").is_file() and crate not in proved()
+
+
+def with_tests() -> list[str]:
+    """The crates that have tests, the upper ones first, which take longest, and the programs beside the users' one."""
+    return [it for it in reversed(uses_by_crate()) if has_tests(it) or is_own_program(it)]
 
 
 def at_once() -> int:
@@ -117,7 +141,7 @@ def main(words: list[str]) -> int:
     crates = words or with_tests()
     ends = []
     with ThreadPoolExecutor(at_once()) as pool:
-        for crate, ended in zip(crates, pool.map(tested, crates)):
+        for crate, ended in zip(crates, pool.map(tried, crates)):
             print(f"{ended.said}{crate}: {ended.passed} passed, {ended.failed} failed", flush=True)
             ends.append(ended)
     failed = sum(it.failed for it in ends)

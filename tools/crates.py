@@ -2,6 +2,7 @@
 from pathlib import Path
 
 ROOT = Path(__file__).resolve().parent.parent
+PROGRAM = "rjoin"
 Uses = dict[str, list[str]]
 
 
