@@ -8,8 +8,9 @@ and are closer than that. The shapes of each layer are merged first; `-rd merged
 they are drawn. `-rd mode=cell` joins the shapes of each cell by themselves, in place of all below
 the top cell. `-rd others=envelope` takes the bounding boxes of shapes that rjoin doesn't read,
 `others=skip` lists them in a category of their own; without it the first one ends the run. Texts
-are listed in any case. `-rd cell=NAME` takes another cell than the top cell. It prints the number
-of items of each category, and of pairs that rest on a bounding box.
+are listed in any case. `-rd cell=NAME` takes another cell than the top cell. `-rd matrices=0` puts
+all pairs of a relation into one category, in place of one for each matrix. It prints the number of
+items of each category, and of pairs that rest on a bounding box.
 """
 from __future__ import annotations
 
@@ -30,7 +31,7 @@ from rjoin_klayout.report import Report  # noqa: E402
 
 SWITCH = {"0": False, "1": True}
 WORDS = ("file", "left", "right", "relation", "space", "output", "merged", "mode", "others", "cell",
-         "version")
+         "matrices", "version")
 
 
 def check_words(arguments: Sequence[str]) -> None:
@@ -47,6 +48,14 @@ def word(given: Dict[str, object], name: str, default: str | None = None) -> str
     if value is None:
         raise JoinError(f"-rd {name}=.. is missing")
     return str(value)
+
+
+def switch(given: Dict[str, object], name: str) -> bool:
+    """The value of `-rd NAME=0` or `-rd NAME=1`, which is also that of a name that isn't given."""
+    value = word(given, name, "1")
+    if value not in SWITCH:
+        raise JoinError(f"{name} must be 0 or 1")
+    return SWITCH[value]
 
 
 def read(path: str) -> pya.Layout:
@@ -84,12 +93,10 @@ def save(report: Report, path: str) -> None:
 
 def request_of(given: Dict[str, object]) -> Request:
     """The request of the variables of the command line."""
-    merged = word(given, "merged", "1")
-    if merged not in SWITCH:
-        raise JoinError("merged must be 0 or 1")
+    reading = Reading(word(given, "others", ERROR), switch(given, "merged"),
+                      word(given, "mode", FLAT))
     return Request(word(given, "left"), word(given, "right"), word(given, "relation", ""),
-                   word(given, "space", ""), Reading(word(given, "others", ERROR), SWITCH[merged],
-                                                     word(given, "mode", FLAT)))
+                   word(given, "space", ""), reading, switch(given, "matrices"))
 
 
 def join(given: Dict[str, object]) -> None:

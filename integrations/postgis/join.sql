@@ -3,8 +3,8 @@
 -- left_columns, right_columns (JSON lists of columns to carry), left_prefix, right_prefix (of their names in the new
 -- table), others (error, envelope, skip), rings (valid, even-odd), decimals (0 to 6, or empty), into and skipped (new
 -- tables), command (of rjoin: join, near, nearest), distance and distance_decimals (a number and its decimals, 0 for
--- none), and with RJOIN, RJOIN_COMMAND, RJOIN_CONDITION (a word), RJOIN_MORE (words without blanks) and RJOIN_WORKERS
--- in the environment. At the end it writes a line `ready`.
+-- none), alone (whether pairs have no matrix), and with RJOIN, RJOIN_COMMAND, RJOIN_CONDITION (a word), RJOIN_MORE
+-- (words without blanks) and RJOIN_WORKERS in the environment. At the end it writes a line `ready`.
 \set ON_ERROR_STOP on
 \set VERBOSITY terse
 \set SHOW_CONTEXT never
@@ -500,22 +500,33 @@ select pg_temp.rjoin_new_name(:'into', '--into') as into,
     \set measure matrix
     \set measure_type character(9)
 \endif
+\if :alone
+    \set measure_column ''
+    \set measure_value ''
+    \set measure_of_table ''
+    \set measure_of_pairs ''
+\else
+    \set measure_column ', ' :measure
+    \set measure_value ', p.measure'
+    \set measure_of_table ', null::' :measure_type ' as ' :measure
+    \set measure_of_pairs ', measure ' :measure_type
+\endif
 \if :by_nearest
     \set order 'l.n, p.measure, r.n'
 \else
     \set order 'l.n, r.n'
 \endif
-select pg_temp.rjoin_check_names(array['left_id', 'right_id', :'measure']
-    || case when :'envelopes' then array['exact'] end
+select pg_temp.rjoin_check_names(array['left_id', 'right_id']
+    || case when not :'alone' then array[:'measure'] end || case when :'envelopes' then array['exact'] end
     || array(select :'left_prefix' || name from unnest(:'left_columns'::text[]) name)
     || array(select :'right_prefix' || name from unnest(:'right_columns'::text[]) name)) \g /dev/null
 
 -- The results first: a name that is taken ends the run before anything is read.
 select pg_temp.rjoin_create(:'into', format(
-    'as select l.%I as left_id, r.%I as right_id %s %s, null::%s as %I from %s l, %s r with no data',
+    'as select l.%I as left_id, r.%I as right_id %s %s %s from %s l, %s r with no data',
     :'left_id', :'right_id', pg_temp.rjoin_listed(:'left_columns', ', l.%1$I as %2$I', :'left_prefix'),
     pg_temp.rjoin_listed(:'right_columns', ', r.%1$I as %2$I', :'right_prefix'),
-    :'measure_type', :'measure', :'left', :'right')) \g /dev/null
+    :'measure_of_table', :'left', :'right')) \g /dev/null
 select pg_temp.rjoin_whole_name(:'into') as pairs \gset
 \if :envelopes
     alter table :pairs add column exact boolean not null;
@@ -569,13 +580,13 @@ select '--scale ' || :decimals || ' --round' || case
         or exists (select from rjoin_right where shape is not null)
     then ' --geometry any --rings even-odd' else '' end as format \gset
 \setenv RJOIN_FORMAT :format
-create temporary table rjoin_pairs (left_n bigint, right_n bigint, measure :measure_type) on commit drop;
+create temporary table rjoin_pairs (left_n bigint, right_n bigint :measure_of_pairs) on commit drop;
 \copy rjoin_pairs from program 'exec "$RJOIN" "$RJOIN_COMMAND" left.csv right.csv $RJOIN_FORMAT "$RJOIN_CONDITION" $RJOIN_MORE --workers "$RJOIN_WORKERS"' csv header
 select pg_temp.rjoin_listed(:'left_columns', ', %2$I', :'left_prefix')
         || pg_temp.rjoin_listed(:'right_columns', ', %2$I', :'right_prefix') as carried,
     pg_temp.rjoin_listed(:'left_columns', ', l.c%3$s', '') || pg_temp.rjoin_listed(:'right_columns', ', r.c%3$s', '')
         as carrying \gset
-insert into :pairs (left_id, right_id :carried, :measure :exact_column)
-select l.id, r.id :carrying, p.measure :exact
+insert into :pairs (left_id, right_id :carried :measure_column :exact_column)
+select l.id, r.id :carrying :measure_value :exact
 from rjoin_pairs p join rjoin_left l on l.n = left_n join rjoin_right r on r.n = right_n order by :order;
 \echo ready

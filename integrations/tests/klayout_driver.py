@@ -1,10 +1,10 @@
 """Joins layers inside one KLayout in batch mode, and asks KLayout itself of each pair of shapes.
 
 `folder` (-rd) has the file `requests`, a JSON list with `layout`, `left`, `right`, `relation` or
-`space`, perhaps `others`, `merged`, `mode` and `asked`. It gets a report database for each and the
-file `answers`: `error`, `database`, and in `asked` the pairs of shapes that stand in the relation
-by KLayout's own methods, of regions for the layout `angled`, of boxes for the others, and those
-that are closer than the space by its separation check.
+`space`, perhaps `others`, `merged`, `mode`, `matrices` and `asked`. It gets a report database for
+each and the file `answers`: `error`, `database`, and in `asked` the pairs of shapes that stand in
+the relation by KLayout's own methods, of regions for the layout `angled`, of boxes for the others,
+and those that are closer than the space by its separation check.
 """
 from __future__ import annotations
 
@@ -198,6 +198,26 @@ def nested() -> pya.Layout:
     return layout
 
 
+def wide() -> pya.Layout:
+    """Boxes far from 0 on both sides, 30 units apart, in a layer whose name has quotes; a polygon
+    with a spike, and a box within it; and paths without a width, of which one end is extended."""
+    layout = pya.Layout()
+    top = layout.create_cell("TOP")
+    far, near = (top.shapes(layout.layer(pya.LayerInfo(*words)))
+                 for words in ((1, 0, "it's \\ far"), (1, 1)))
+    for left in (0, 40):
+        near.insert(pya.Box(left, 0, left + 10, 10))
+        for x, y in ((-1234567890, 987654321), (1987654321, -1234567891)):
+            far.insert(pya.Box(left, 0, left + 10, 10).moved(x, y))
+    spiked = [(0, 0), (0, 100), (50, 100), (50, 150), (50, 100), (100, 100), (100, 0)]
+    top.shapes(layout.layer(2, 0)).insert(pya.Polygon([pya.Point(x, y) for x, y in spiked], True))
+    top.shapes(layout.layer(2, 1)).insert(pya.Box(20, 20, 40, 40))
+    ends = [pya.Point(0, 0), pya.Point(9, 9)]
+    for number, extensions in ((3, (5, 0)), (4, (0, 5))):
+        top.shapes(layout.layer(number, 0)).insert(pya.Path(ends, 0, *extensions))
+    return layout
+
+
 def ruled(dbu: str, path: Path) -> pya.Layout:
     """Boxes and triangles 50 units apart, and a box and a triangle that are 49 units from a box,
     as they are read from a file."""
@@ -312,7 +332,7 @@ def answer(layout: pya.Layout, request: Dict[str, Any], path: Path) -> Dict[str,
     words = Request(request["left"], request["right"], request.get("relation", ""),
                     request.get("space", ""),
                     Reading(request.get("others", "error"), request.get("merged", False),
-                            request.get("mode", "flat")))
+                            request.get("mode", "flat")), request.get("matrices", True))
     try:
         report = join_layers(layout, layout.top_cell(), words)
         report.write(path)
@@ -329,7 +349,8 @@ def answer(layout: pya.Layout, request: Dict[str, Any], path: Path) -> Dict[str,
 def main(folder: Path) -> None:
     """Works the requests off."""
     layouts = {"chip": chip(), "others": others(), "town": town(), "metal": metal(),
-               "angled": angled(), "folded": folded(), "spaced": spaced(), "nested": nested()}
+               "angled": angled(), "folded": folded(), "spaced": spaced(), "nested": nested(),
+               "wide": wide()}
     requests = json.loads((folder / "requests").read_text(encoding="utf-8"))
     for name in {request["layout"] for request in requests if request["layout"] not in layouts}:
         layouts[name] = ruled(name.rpartition(".")[0], folder / name)

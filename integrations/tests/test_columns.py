@@ -188,13 +188,16 @@ def test_all_in_units() -> None:
     ("left,right,matrix\n00,1,212FF1FF2\n07,0,0FFFFF212\n", (2, 1),
      [(0, 1, "212FF1FF2"), (7, 0, "0FFFFF212")]),
     ("left,right,distance\n0,12,1.5\n3,00,10\n", (1, 2), [(0, 12, "1.5"), (3, 0, "10")]),
+    ("left,right\n", (1, 1), []), ("left,right\n0,12\n3,00\n", (1, 2), [(0, 12), (3, 0)]),
 ])
 def test_reports(text: str, digits: Any, rows: Any, tmp_path: Path) -> None:
     path = tmp_path / "report.csv"
     path.write_text(text, encoding="ascii")
-    column = text.split("\n", maxsplit=1)[0].rpartition(",")[2]
-    found = module("report").read(path, column, digits)
-    assert list(zip(found.left.tolist(), found.right.tolist(), found.texts)) == rows
+    columns = text.split("\n", maxsplit=1)[0].split(",")[2:]
+    found = module("report").read(path, columns, digits)
+    read = [found.left.tolist(), found.right.tolist(), *[found.texts] * len(columns)]
+    assert list(zip(*read)) == rows
+    assert columns or found.texts == []
 
 
 @pytest.mark.parametrize("text", [
@@ -204,4 +207,14 @@ def test_what_is_no_report(text: str, program: Path, tmp_path: Path) -> None:
     path = tmp_path / "report.csv"
     path.write_text(text, encoding="ascii")
     with pytest.raises(module("program").ProgramError, match="wrote no report"):
-        module("report").read(path, "matrix", (1, 1))
+        module("report").read(path, ["matrix"], (1, 1))
+
+
+@pytest.mark.parametrize("text", [
+    "", "left,right,matrix\n", "left,right\n1,2", "left,right\n1,2,212FF1FF2\n",
+    "left,right\n12,3\n", "left,right\n1,\n", "left,right\n1,x\n"])
+def test_what_is_no_report_of_pairs_alone(text: str, program: Path, tmp_path: Path) -> None:
+    path = tmp_path / "report.csv"
+    path.write_text(text, encoding="ascii")
+    with pytest.raises(module("program").ProgramError, match="wrote no report"):
+        module("report").read(path, [], (1, 1))

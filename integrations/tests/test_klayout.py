@@ -14,7 +14,7 @@ from typing import Any, Callable, Dict, List, Tuple
 
 import pytest
 
-from town import ROOT
+from town import ROOT, stand_in
 
 PACKAGE = ROOT / "integrations/klayout"
 DRIVER = Path(__file__).with_name("klayout_driver.py")
@@ -65,6 +65,22 @@ RULED = [{"layout": f"{unit}.{form}", "left": "1/0", "right": right,
          for unit in UNITS for form in FORMATS for right in ("1/0", "2/0")]
 
 
+# Layers of large numbers, and the name of one of them.
+FAR = "it's \\ far"
+WIDE: List[Dict[str, Any]] = [
+    {"layout": "wide", "left": FAR, "right": FAR, "relation": "intersects", "asked": True,
+     "merged": merged} for merged in (False, True)] + [
+    {"layout": "wide", "left": left, "right": left, "space": space, "merged": True}
+    for left, space in ((FAR, "0.031"), (FAR, "0.03"), ("1/1", "5000"))] + [
+    {"layout": "wide", "left": left, "right": "2/1", "relation": "contains_properly"}
+    for left in ("2/0", "3/0", "4/0")]
+
+# Without the matrices that the others sort their pairs by.
+WITHOUT_MATRICES: List[Dict[str, Any]] = [
+    {"layout": layout, "left": "1/0", "right": "2/0", "relation": relation, "matrices": False}
+    for layout, relation in (("chip", "overlaps"), ("angled", "T********"))]
+
+
 def klayout_run(words: List[str], variables: Dict[str, str], **environment: str
                 ) -> subprocess.CompletedProcess[str]:
     """Runs KLayout without a display."""
@@ -107,7 +123,7 @@ def joined(klayout: Any, town: Path, tmp_path_factory: pytest.TempPathFactory) -
     requests += [{"layout": "others", "left": "1/0", "right": right, "relation": "contains",
                   "others": others} for right in ("2/0", "3/0")
                  for others in ("error", "skip", "envelope")]
-    requests += METAL + SPACES + RULED
+    requests += METAL + SPACES + RULED + WIDE + WITHOUT_MATRICES
     requests += [{"layout": "angled", "left": "1/0", "right": "2/0", "space": "0.3", "asked": True},
                  {"layout": "metal", "left": "1/0", "right": "2/0", "relation": "contains",
                   "mode": "cell"},
@@ -132,7 +148,8 @@ def key_of(request: Dict[str, Any]) -> str:
     condition = request.get("relation") or f"<{request['space']}"
     words = [request["layout"], request["left"], condition, request["right"],
              request.get("others", "error"), *["merged"] * request.get("merged", False)]
-    return " ".join([*words, *["cell"] * (request.get("mode") == "cell")])
+    words += ["cell"] * (request.get("mode") == "cell")
+    return " ".join([*words, *["alone"] * (not request.get("matrices", True))])
 
 
 def numbers_of(text: str) -> List[float]:
@@ -333,6 +350,41 @@ def test_spacing_at_the_rule(joined: Dict[str, Any], unit: str, form: str) -> No
         assert f"distance: {(49 * Decimal(unit)).normalize():f} um" in text
 
 
+def test_spacing_of_large_numbers(joined: Dict[str, Any]) -> None:
+    """On both sides of 0, and of a spacing that is far larger than the layout."""
+    names = [f"wide {FAR} <{space} {FAR} error merged" for space in ("0.031", "0.03")]
+    assert [pairs_of(joined[name]).total() for name in names] == [2, 0]
+    assert pairs_of(joined["wide 1/1 <5000 1/1 error merged"]).total() == 1
+
+
+@pytest.mark.parametrize("merged", ["", " merged"])
+def test_all_digits_of_a_shape_are_shown(joined: Dict[str, Any], merged: str) -> None:
+    """Beside KLayout's own texts of the boxes, in a layer whose name has quotes."""
+    answer = joined[f"wide {FAR} intersects {FAR} error{merged}"]
+    asked = Counter((bounds(one), bounds(other)) for one, other in answer["asked"])
+    assert pairs_of(answer) == asked and asked.total() == 4
+
+
+def test_polygons_with_a_spike_are_read(joined: Dict[str, Any]) -> None:
+    assert pairs_of(joined["wide 2/0 contains_properly 2/1 error"]).total() == 1
+
+
+def test_one_extended_end_is_enough(joined: Dict[str, Any]) -> None:
+    for layer in ("3/0", "4/0"):
+        assert "a path without a width, with extended ends" in joined[
+            f"wide {layer} contains_properly 2/1 error"]["error"]
+
+
+@pytest.mark.parametrize("words", ["chip 1/0 overlaps 2/0", "angled 1/0 T******** 2/0"])
+def test_pairs_without_their_matrices(joined: Dict[str, Any], words: str) -> None:
+    """The same pairs, in one category."""
+    alone, sorted_ = (joined[f"{words} error{more}"] for more in (" alone", ""))
+    key = corners if words.startswith("angled") else bounds
+    assert pairs_of(alone, key) == pairs_of(sorted_, key) and pairs_of(alone)
+    names = items(Path(alone["database"]))
+    assert list(names) == [f"'{words.partition(' ')[2]}'"] != list(items(Path(sorted_["database"])))
+
+
 def test_spacing_is_at_least_half_a_unit(joined: Dict[str, Any]) -> None:
     assert joined["spaced 1/0 <0.0004 2/0 error"]["error"] == (
         "space must be at least half a database unit, which is 0.001 micrometres, not 0.0004")
@@ -401,6 +453,58 @@ def test_batch_mode_merges_and_tells_bounding_boxes(klayout: Any, town: Path, tm
     assert none.returncode == 1 and "space must be a number of micrometres above 0" in none.stderr
 
 
+def test_batch_mode_without_matrices(program: Path, klayout: Any, town: Path, tmp_path: Path
+                                     ) -> None:
+    """The program is asked for pairs alone, by the variable alone."""
+    stand_in(tmp_path / "rjoin", f'echo "$@" >> {tmp_path}/words\nexec {program} "$@"')
+    output = tmp_path / "pairs.lyrdb"
+    words = {"file": str(town), "left": "1/0", "right": "4/0", "relation": "overlaps",
+             "merged": "0", "output": str(output)}
+    for matrices, told in (("0", "'1/0 overlaps 4/0': 20"),
+                           ("1", "'1/0 overlaps 4/0'.'212101212': 19")):
+        ended = klayout_run(["-b", "-r", str(PACKAGE / "join.py")],
+                            {**words, "matrices": matrices}, RJOIN=str(tmp_path / "rjoin"))
+        assert ended.returncode == 0 and ended.stdout.splitlines()[0] == told, ended.stderr
+        last = (tmp_path / "words").read_text(encoding="utf-8").splitlines()[-1]
+        assert ("--pairs" in last.split()) == (matrices == "0")
+    wrong = klayout(PACKAGE / "join.py", **words, matrices="no")
+    assert wrong.returncode == 1 and "matrices must be 0 or 1" in wrong.stderr
+
+
+def test_batch_mode_in_another_cell(klayout: Any, tmp_path: Path) -> None:
+    """Of two top cells, which have one box each."""
+    script, layout, output = (tmp_path / name for name in ("cells.py", "cells.oas", "pairs.lyrdb"))
+    script.write_text("import pya\nlayout = pya.Layout()\n"
+                      "for name, size in (('ONE', 10), ('OTHER', 20)):\n"
+                      "    shapes = layout.create_cell(name).shapes(layout.layer(1, 0))\n"
+                      "    shapes.insert(pya.Box(0, 0, size, size))\n"
+                      "layout.write(output)\n", encoding="utf-8")
+    assert klayout(script, output=str(layout)).returncode == 0
+    words = {"file": str(layout), "left": "1/0", "right": "1/0", "relation": "equals",
+             "output": str(output)}
+    neither = klayout(PACKAGE / "join.py", **words)
+    assert neither.returncode == 1
+    assert "the layout has 2 top cells; choose one by -rd cell=NAME" in neither.stderr
+    for name, size in (("ONE", 0.01), ("OTHER", 0.02)):
+        ended = klayout(PACKAGE / "join.py", **words, cell=name)
+        assert ended.returncode == 0, ended.stderr
+        assert list(items(output).values()) == [[((0.0, 0.0, size, size),) * 2]]
+
+
+def test_a_failing_program_leaves_nothing(klayout: Any, town: Path, tmp_path: Path) -> None:
+    """A program that ends with a fault after a part of its answer."""
+    program = stand_in(tmp_path / "rjoin", '[ "$2" = /dev/null ] && exit 1\n'
+                       "echo left,right,matrix\necho 0,0,2FFF1FFF2\n"
+                       "echo rjoin: no memory >&2\nexit 1")
+    output = tmp_path / "pairs.lyrdb"
+    output.write_text("before", encoding="utf-8")
+    ended = klayout_run(["-b", "-r", str(PACKAGE / "join.py")], {
+        "file": str(town), "left": "1/0", "right": "4/0", "relation": "overlaps",
+        "output": str(output)}, RJOIN=str(program))
+    assert (ended.returncode, ended.stderr) == (1, "join.py: rjoin: no memory\n")
+    assert output.read_text(encoding="utf-8") == "before"
+
+
 def test_batch_mode_fails_with_a_status(klayout: Any, town: Path, tmp_path: Path) -> None:
     output = tmp_path / "nowhere" / "pairs.lyrdb"
     ended = klayout(PACKAGE / "join.py", file=str(town), left="1/0", right="2/0",
@@ -427,7 +531,11 @@ try:
     asked.space.text = "0.5"
     print(asked.request())
     asked.space.text = ""
-    asked.merged.checked = False
+    asked.merged.checked = asked.matrices.checked = False
+    asked.others.currentIndex, asked.mode.currentIndex = 2, 1
+    print(asked.request())
+    asked.others.currentIndex = asked.mode.currentIndex = 0
+    asked.matrices.checked = True
     print(dialog.show(view, asked.request()), view.num_rdbs())
 except Exception:
     traceback.print_exc()
@@ -448,7 +556,9 @@ def test_package_with_its_dialog(klayout: Any, town: Path, tmp_path: Path) -> No
         "Join layers by relation",
         "Merge the shapes of each layer first True",
         "Request(left='1/0', right='4/0', relation='', space='0.5', "
-        "reading=Reading(others='error', merged=True, mode='flat'))",
+        "reading=Reading(others='error', merged=True, mode='flat'), matrices=True)",
+        "Request(left='1/0', right='4/0', relation='overlaps', space='', "
+        "reading=Reading(others='skip', merged=False, mode='cell'), matrices=False)",
         "20 1"
     ], ended.stderr
 

@@ -108,6 +108,35 @@ def test_joins_of_the_town(server: Dict[str, str], join: Join) -> None:
     assert own or join.relation == "overlaps"
 
 
+def test_pairs_without_their_matrix(server: Dict[str, str], village: str, program: Path,
+                                    tmp_path: Path) -> None:
+    """Those of PostGIS, with carried columns, one of which may be named matrix; the program is
+    asked for pairs alone."""
+    psql(server, "create table lettered (id text primary key, matrix int, geom geometry)",
+         "insert into lettered select id, 7, geom from parcels")
+    stand_in(tmp_path / "rjoin", f'echo "$*" >>{tmp_path}/words\nexec {program} "$@"')
+    words = ["lettered", "zones", "--relation", "overlaps", "--left-prefix", "", "--left-columns",
+             "matrix"]
+    assert "two columns of the new table would have the name matrix" in refused(
+        server, *words, "--into", "never")
+    ended = command(server, *words, "--pairs", "--into", "alone", RJOIN=str(tmp_path / "rjoin"))
+    assert (ended.returncode, ended.stdout) == (0, "pairs in alone: 20\n"), ended.stderr
+    assert "--pairs" in (tmp_path / "words").read_text(encoding="utf-8").splitlines()[-1].split()
+    own = psql(server, "select p.id, z.id, 7 from parcels p join zones z"
+               " on ST_Overlaps(p.geom, z.geom) order by 1, 2")
+    assert psql(server, "select * from alone order by 1, 2") == own and own
+    done(server, village, village, "--relation", "crosses", "--pairs", "--others", "envelope",
+         "--into", "village_alone")
+    own = psql(server, f"select l.id, r.id, true from {village} l join {village} r"
+               " on ST_Crosses(l.geom, r.geom) order by 1, 2")
+    assert psql(server, "select * from village_alone order by 1, 2") == own and own
+    found = psql(server, "select attname from pg_attribute where attnum > 0 and"
+                 " attrelid = 'village_alone'::regclass order by attnum")
+    assert [name for name, in found] == ["left_id", "right_id", "exact"]
+    near = command(server, "lettered", "zones", "--distance", "1", "--pairs", "--into", "never")
+    assert near.returncode == 2 and "--pairs needs --relation" in near.stderr
+
+
 NEAR = ("select l.id, r.id, round(ST_Distance(l.geom, r.geom)::numeric, 6)::double precision"
         " from {left} l join {right} r on ST_DWithin(l.geom, r.geom, {distance}) {apart}"
         " order by 1, 2")
@@ -442,6 +471,23 @@ def test_decimals(server: Dict[str, str]) -> None:
     done(server, *words, "--decimals", "5")
 
 
+def test_coordinates_below_zero(server: Dict[str, str]) -> None:
+    """Their size counts without the sign."""
+    psql(server, "create table below (id int primary key, geom geometry)",
+         "insert into below values (1, 'POINT (-2000000 0.000001)'), (2, 'POINT (-1 -1)')")
+    words = ["below", "below", "--relation", "equals", "--into", "below_pairs"]
+    assert f"below, id 1: {AT_6}; give --decimals, at most 5, or --others skip" in refused(
+        server, *words)
+    done(server, *words, "--others", "skip")
+    assert psql(server, "select distinct id, reason from below_pairs_skipped") == [["1", AT_6]]
+    assert psql(server, "select left_id, right_id from below_pairs") == [["2", "2"]]
+    psql(server, "update below set geom = 'POINT (0.5 -30000000)' where id = 1",
+         "create table zero (id int primary key, geom geometry)",
+         "insert into zero values (1, 'POINT (0 0)')")
+    done(server, "zero", "below", "--distance", "1.5", "--into", "below_near")
+    assert psql(server, "select right_id, distance from below_near") == [["2", "1.4142"]]
+
+
 NO_NUMBER = "a coordinate is not a number"
 TOO_FAR = "a coordinate is out of range: the limit is 1000000000000"
 AT_6 = "a coordinate is out of range: the limit at 6 decimals is 1000000"
@@ -653,6 +699,21 @@ def test_a_table_that_another_run_makes(server: Dict[str, str]) -> None:
             other.communicate("commit;\n")
             _, errors = process.communicate(timeout=20)
     assert errors == "rjoin-postgis: both_make already exists\n"
+
+
+def test_both_tables_are_read_as_they_are_at_one_time(server: Dict[str, str]) -> None:
+    """A row that comes while the left table is read isn't in the right one either."""
+    psql(server, "create table growing (id int primary key, geom geometry)",
+         "insert into growing values (1, 'POINT (1 1)')",
+         "create view slowly as select id, geom from growing, pg_sleep(2)")
+    words = [str(COMMAND), "slowly", "growing", "--left-id", "id", "--relation", "equals",
+             "--into", "grown"]
+    with subprocess.Popen(words, env=server, stdout=subprocess.PIPE, text=True) as process:
+        wait_until(lambda: psql(server, "select count(*) from pg_stat_activity"
+                                " where wait_event = 'PgSleep'") == [["1"]])
+        psql(server, "insert into growing values (2, 'POINT (1 1)')")
+        told, _ = process.communicate(timeout=20)
+    assert told == "pairs in grown: 1\n"
 
 
 def test_a_full_disk_is_told(server: Dict[str, str], tmp_path: Path) -> None:

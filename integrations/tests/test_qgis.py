@@ -12,7 +12,7 @@ from typing import Any, Dict, Iterator, List, Tuple
 
 import pytest
 
-from test_boxes import line
+from test_boxes import line, module
 from town import COVERING, JOINS, ROOT, TOWN, stand_in
 
 sys.path.insert(0, str(ROOT / "bench"))
@@ -196,6 +196,14 @@ def test_fields_and_forms_of_output(runs: Any) -> None:
     assert all(isinstance(row["right"], int) and row["geometry"] is None for row in table)
     assert set(some["rows"]["OUTPUT"][0]) == {"id", "wkt", "id_2", "matrix", "geometry"}
     assert pairs(mask) == pairs(some)
+
+
+def test_added_fields_in_another_order(runs: Any) -> None:
+    layers = town("stations"), town("parcels"), "within"
+    native = natives(*layers)
+    native["parameters"]["JOIN_FIELDS"] = ["wkt", "id"]
+    own, theirs = runs([ours(*layers, JOIN_FIELDS=["wkt", "id"]), native])
+    assert compared(own) == compared(theirs) and pairs(own)
 
 
 def station_ids() -> List[str]:
@@ -458,6 +466,51 @@ def test_many_pairs(runs: Any, tmp_path: Path) -> None:
         (str(x), ("0F2FF1FF2", "FF20F1FF2")[x % 2]) for x in range(count)]
 
 
+def test_pairs_without_their_matrix(runs: Any, tmp_path: Path) -> None:
+    """The same rows without the field, of one relation and of several, and in each form of output;
+    of more pairs than are made at once, too."""
+    others = layer(tmp_path / "others.csv", {**OTHERS, "far": FAR})
+    parcels, roads = town("parcels"), town("roads")
+    forms: List[Tuple[str, str, str, Dict[str, Any]]] = [
+        (parcels, roads, "touches", {"DISCARD_NONMATCHING": False}),
+        (parcels, roads, "touches", {"RELATION": [1, 2], "METHOD": 2}),
+        (parcels, roads, "touches", {"METHOD": 1, "INPUT_ID": "id"}),
+        (parcels, roads, "touches", {"MASK": "FF*T*****", "NON_MATCHING": "memory:"}),
+        (others, parcels, "intersects", {"OTHERS": ENVELOPE, "DISCARD_NONMATCHING": False}),
+        (PARCELS, ROADS, "crosses", {})]
+    answers = runs([ours(left, right, relation, MATRIX=matrix, **more)
+                    for left, right, relation, more in forms for matrix in (True, False)])
+    for form, whole, alone in zip(forms, answers[::2], answers[1::2]):
+        assert whole["error"] is None and alone["error"] is None, (whole, alone)
+        assert all("matrix" in row for row in whole["rows"]["OUTPUT"]), form
+        assert alone["results"]["PAIRS"] == whole["results"]["PAIRS"] > 0
+        for name, rows in whole["rows"].items():
+            assert (alone["rows"][name] or []) == [
+                {field: value for field, value in row.items() if field != "matrix"}
+                for row in rows or []], form
+
+
+def test_many_pairs_without_their_matrix(runs: Any, tmp_path: Path) -> None:
+    count = 17000
+    area = layer(tmp_path / "area.csv", {
+        "area": "POLYGON ((-1 -1, 20000 -1, 20000 1, -1 1, -1 -1))"})
+    many = layer(tmp_path / "many.csv", {str(x): f"POINT ({x} {x % 2})" for x in range(count)})
+    (table,) = runs([ours(area, many, "intersects", METHOD=1, JOIN_ID="id", MATRIX=False)])
+    assert [row["right"] for row in table["rows"]["OUTPUT"]] == [str(x) for x in range(count)]
+
+
+def test_the_program_computes_no_matrix_where_none_is_asked_for(
+        runs: Any, program: Path, tmp_path: Path) -> None:
+    words = tmp_path / "words"
+    own = stand_in(tmp_path / "rjoin", f'echo "$@" >> {words}\nexec {program} "$@"')
+    for matrix in (True, False):
+        (answer,) = runs([{**ours(town("parcels"), town("roads"), "touches", MATRIX=matrix),
+                           "program": str(own)}])
+        assert answer["error"] is None
+        last = words.read_text(encoding="utf-8").splitlines()[-1].split()
+        assert ("--pairs" in last) != matrix
+
+
 def test_pairs_of_several_relations_are_each_kept(runs: Any, tmp_path: Path) -> None:
     """Of a base feature with the last join feature, and of the next one with the first."""
     bars = layer(tmp_path / "bars.csv", {"a": "LINESTRING (0 0, 9 0)", "b": "LINESTRING (0 5, 9 5)",
@@ -545,6 +598,17 @@ def test_left_out_is_told_without_an_output(runs: Any, tmp_path: Path) -> None:
     (answer,) = runs([ours(others, town("parcels"), "intersects", OTHERS=LEAVE_OUT)])
     assert any("features left out: 3, namely feature 6 (a curve or surface)" in line
                for line in answer["log"])
+
+
+def test_what_has_no_output_of_its_own_is_named(runs: Any, tmp_path: Path) -> None:
+    """Of a layer beside one whose features left out are listed."""
+    others = layer(tmp_path / "others.csv", OTHERS)
+    answers = runs([ours(others, others, "intersects", OTHERS=LEAVE_OUT, **{name: "memory:"},
+                         DISCARD_NONMATCHING=True) for name in ("INPUT_LEFT_OUT", "JOIN_LEFT_OUT")])
+    for answer, named in zip(answers, ("Join", "Base")):
+        told = [line.partition(" layer ")[0] for line in answer["log"]
+                if "features left out: 3, namely feature 6 (a curve or surface)" in line]
+        assert told == [named]
 
 
 def village(name: str, geometry: str) -> str:
@@ -720,7 +784,7 @@ def test_what_is_out_of_range(runs: Any, tmp_path: Path) -> None:
     """What the decimals of the run don't reach is left out like any other geometry; an envelope
     stays with its feature."""
     squares = {"far": square(2000000, 1), "near": square(1, 1), "beyond": square(2e13, 1),
-               "further": square(3, 500000000)}
+               "further": square(3, 500000000), "below": square(1, -3000000)}
     far = layer(tmp_path / "far.csv", squares)
     mixed = layer(tmp_path / "mixed.csv", {**squares, "curve": OTHERS["curve"],
                                            "box": OTHERS["box"]})
@@ -747,14 +811,15 @@ def test_what_is_out_of_range(runs: Any, tmp_path: Path) -> None:
         "most 5 fit")
     reasons = {"beyond": "a coordinate out of range",
                "far": "a coordinate out of range with 6 decimals",
-               "further": "a coordinate out of range with 6 decimals"}
+               "further": "a coordinate out of range with 6 decimals",
+               "below": "a coordinate out of range with 6 decimals"}
     for answer in (left_out, by_given, by_distance, envelopes):
         assert {(row["id"], row["id_2"]) for row in answer["rows"]["OUTPUT"]} >= {("near", "z")}
         assert {row["id"]: row["reason"] for row in answer["rows"]["INPUT_LEFT_OUT"]} == reasons
     assert {row["id"]: row["exact"] for row in envelopes["rows"]["OUTPUT"]} == {
         "near": True, "curve": False, "box": True}
-    assert "features left out: 3, each of which may be the partner" in partner["error"]
-    assert (counted["results"]["FEATURES"], counted["results"]["LEFT_OUT_COUNT"]) == (2, 2)
+    assert "features left out: 4, each of which may be the partner" in partner["error"]
+    assert (counted["results"]["FEATURES"], counted["results"]["LEFT_OUT_COUNT"]) == (3, 2)
     assert [row["id"] for row in window["rows"]["OUTPUT"]] == ["near"]
     assert [row["id"] for row in window["rows"]["LEFT_OUT"]] == ["beyond", "further"]
 
@@ -873,6 +938,29 @@ def test_the_program_is_named_where_it_is_missing(runs: Any) -> None:
     request = {**ours(town("parcels"), town("roads"), "touches"), "program": "/nowhere/rjoin"}
     (answer,) = runs([request])
     assert "RJOIN is '/nowhere/rjoin'" in answer["error"]
+
+
+def test_a_failing_program_makes_no_output(runs: Any, tmp_path: Path) -> None:
+    """One that ends with a fault after a part of its answer."""
+    program = stand_in(tmp_path / "rjoin", '[ "$2" = /dev/null ] && exit 1\n'
+                       "echo left,right,matrix\necho 00,00,2FFF1FFF2\n"
+                       "echo rjoin: no memory >&2\nexit 1")
+    output = tmp_path / "never.gpkg"
+    (answer,) = runs([{**ours(town("parcels"), town("roads"), "touches", OUTPUT=str(output)),
+                       "program": str(program)}])
+    assert answer["error"] == "rjoin: no memory" and not output.exists()
+
+
+def test_a_program_that_is_cancelled_ends(tmp_path: Path, monkeypatch: pytest.MonkeyPatch) -> None:
+    """One that has told its number, and would go on for long."""
+    program, number = module("program"), tmp_path / "number"
+    stand_in(tmp_path / "rjoin",
+             f"echo $$ >{number}.new; mv {number}.new {number}\nexec sleep 100")
+    monkeypatch.setenv("RJOIN", str(tmp_path / "rjoin"))
+    with pytest.raises(program.Cancelled):
+        program.run(["join"], tmp_path / "report", number.exists)
+    with pytest.raises(ProcessLookupError):
+        os.kill(int(number.read_text(encoding="utf-8")), 0)
 
 
 def test_the_number_of_threads_is_given_to_the_program(runs: Any, tmp_path: Path) -> None:

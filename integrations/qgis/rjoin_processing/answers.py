@@ -2,6 +2,7 @@
 from __future__ import annotations
 
 from dataclasses import dataclass
+from itertools import repeat
 from typing import TYPE_CHECKING, Any, Iterator, List, NamedTuple, Sequence, Tuple
 
 import numpy as np
@@ -87,7 +88,8 @@ class JoinFields:
                 columns.append(exact[some].tolist())
             if self.has_known:
                 columns.append([known] * pairs.left[some].size)
-            yield from map(list, zip(*columns))
+            rows = zip(*columns) if columns else repeat((), pairs.left[some].size)
+            yield from map(list, rows)
 
     def of_lonely(self, left: int) -> List[Any]:
         """The flags of a base feature without a partner."""

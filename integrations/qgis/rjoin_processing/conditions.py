@@ -26,11 +26,11 @@ INTERSECTS = "intersects"
 class Condition(ABC):
     """A question to rjoin about two layers, and the fields that a pair gets.
 
-    `title` names the condition, and `column` is the last one of the report.
+    `title` names the condition, and `columns` are those of the report behind the ids.
     """
 
     title: str
-    column: str
+    columns: Sequence[str]
     meaning: Meaning
 
     @abstractmethod
@@ -56,30 +56,31 @@ class Condition(ABC):
 
 
 class Relations(Condition):
-    """Pairs that stand in one of some relations, or whose matrix fits a mask."""
+    """Pairs that stand in one of some relations, or whose matrix fits a mask; without matrices the
+    program computes none."""
 
-    column = "matrix"
-
-    def __init__(self, names: Sequence[str]) -> None:
+    def __init__(self, names: Sequence[str], matrices: bool) -> None:
         self.title = " or ".join(names)
+        self.columns = ["matrix"] if matrices else []
         # Every relation that rjoin joins by has the two share a point.
         self.names = [INTERSECTS] if INTERSECTS in names else list(names)
         self.meaning = Meaning(lonely_is_exact=INTERSECTS in names)
 
     def check(self) -> None:
-        for name in self.names:
-            refusal = program.refusal("join", f"--relation={name}")
+        for command in self.commands():
+            refusal = program.refusal(*command)
             if refusal is not None:
                 raise program.ProgramError(refusal)
 
     def commands(self) -> List[List[str]]:
-        return [["join", f"--relation={name}"] for name in self.names]
+        more = [] if self.columns else ["--pairs"]
+        return [["join", f"--relation={name}", *more] for name in self.names]
 
     def fields(self) -> List[QgsField]:
-        return [QgsField("matrix", QVariant.String, len=9)]
+        return [QgsField(name, QVariant.String, len=9) for name in self.columns]
 
     def pairs(self, report: Report, left: Layer, right: Layer) -> Pairs:
-        return Pairs(report.left, report.right, (report.texts,))
+        return Pairs(report.left, report.right, (report.texts,) if self.columns else ())
 
 
 def distance_field() -> QgsField:
@@ -90,7 +91,7 @@ class Distances(Condition):
     """Pairs that a command gives with their distances, perhaps within a greatest distance."""
 
     command: str
-    column = "distance"
+    columns = ("distance",)
 
     def __init__(self, distance: float | None) -> None:
         self.distance = distance

@@ -5,6 +5,7 @@ from typing import Any, Dict, List
 
 from qgis.core import (
     QgsProcessingContext,
+    QgsProcessingParameterBoolean,
     QgsProcessingParameterEnum,
     QgsProcessingParameterString,
 )
@@ -34,7 +35,9 @@ class JoinByRelation(JoinAlgorithm):
         return """<p>Joins each feature of the base layer with those of the join layer that stand \
 in a spatial relation to it, as rjoin does, whose answer is proved: each pair once, and no other. \
 The output has the nine letters of each pair's DE-9IM matrix (OGC 06-103r4) in the field \
-<i>matrix</i>. Of several relations, a pair has to stand in one at least.</p>
+<i>matrix</i>, unless <i>Add the matrix of each pair</i> is switched off: the program computes \
+none then, and joins of other geometries than boxes take less time. Of several relations, a pair \
+has to stand in one at least.</p>
 <h3>Own mask</h3>
 <p>Nine of the letters T, F, *, 0, 1, 2, in place of named relations. A mask that features \
 without a common point may fit is refused.</p>""" + JOIN_HELP + COMMON_HELP
@@ -45,8 +48,11 @@ without a common point may fit is refused.</p>""" + JOIN_HELP + COMMON_HELP
             defaultValue=[0]))
         self.addParameter(QgsProcessingParameterString(
             "MASK", "Own mask, in place of the relations", optional=True))
+        self.addParameter(QgsProcessingParameterBoolean(
+            "MATRIX", "Add the matrix of each pair", True))
 
     def condition_of(self, parameters: Dict[str, Any], context: QgsProcessingContext) -> Relations:
         mask = self.parameterAsString(parameters, "MASK", context)
         chosen = self.parameterAsEnums(parameters, "RELATION", context)
-        return Relations([mask] if mask else [RELATIONS[number] for number in sorted(set(chosen))])
+        return Relations([mask] if mask else [RELATIONS[number] for number in sorted(set(chosen))],
+                         self.parameterAsBoolean(parameters, "MATRIX", context))

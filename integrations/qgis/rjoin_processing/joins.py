@@ -211,7 +211,7 @@ class _Run:
             path = folder / f"report{number}.csv"
             program.run([command, *map(str, paths), *words, *format_words([left, right], decimals),
                          "--workers", str(workers)], path, feedback.isCanceled)
-            rows = report.read(path, self.condition.column, digits)
+            rows = report.read(path, self.condition.columns, digits)
             found.append(self.condition.pairs(rows, left, right))
         return joined.merged(found, len(right.features))
 

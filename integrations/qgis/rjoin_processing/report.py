@@ -2,7 +2,7 @@
 from __future__ import annotations
 
 from pathlib import Path
-from typing import TYPE_CHECKING, Dict, List, NamedTuple, Tuple
+from typing import TYPE_CHECKING, Dict, List, NamedTuple, Sequence, Tuple
 
 import numpy as np
 from numpy.lib.stride_tricks import sliding_window_view
@@ -18,38 +18,41 @@ BLOCK = 1 << 14
 
 
 class Report(NamedTuple):
-    """The rows of a report: the numbers of two features, and the text of the last column."""
+    """The rows of a report: the numbers of two features, and the texts of the last column, of which
+    there are none where the report has pairs alone."""
 
     left: Places
     right: Places
     texts: List[str]
 
 
-def read(path: Path, column: str, digits: Tuple[int, int]) -> Report:
-    """The rows of a report, in its order; digits: those of the left ids and the right ones."""
+def read(path: Path, columns: Sequence[str], digits: Tuple[int, int]) -> Report:
+    """The rows of a report, in its order; columns: those behind the ids, one or none; digits: those
+    of the left ids and the right ones."""
     data = np.fromfile(path, np.uint8)
-    header = f"left,right,{column}\n".encode()
+    header = (",".join(["left", "right", *columns]) + "\n").encode()
     if data[:len(header)].tobytes() != header or data[-1] != NEWLINE:
         raise _no_report()
     data = data[len(header):]
     ends = np.flatnonzero(data == NEWLINE)
     begins = np.concatenate([[0], ends[:-1] + 1])[:ends.size]
     left, right = digits
-    lasts = begins + left + right + 2
-    if (ends < lasts).any():
+    lasts = begins + left + right + 1 + len(columns)
+    if (ends < lasts if columns else ends != lasts).any():
         raise _no_report()
-    return Report(_numbers(data, begins, left), _numbers(data, begins + left + 1, right),
-                  _texts(data, lasts, ends))
+    return Report(_numbers(data, begins, left, COMMA),
+                  _numbers(data, begins + left + 1, right, COMMA if columns else NEWLINE),
+                  _texts(data, lasts, ends) if columns else [])
 
 
 def _no_report() -> program.ProgramError:
     return program.ProgramError(f"{program.find_program()} wrote no report")
 
 
-def _numbers(data: Bytes, begins: Places, width: int) -> Places:
-    """The numbers of some digits that begin at these places, each before a comma."""
+def _numbers(data: Bytes, begins: Places, width: int, end: int) -> Places:
+    """The numbers of some digits that begin at these places, each before a byte that ends it."""
     found = np.zeros(begins.size, np.int64)
-    wrong = data[begins + width] != COMMA
+    wrong = data[begins + width] != end
     for place in range(width):
         digit = data[begins + place] - np.uint8(ZERO)
         wrong |= digit > 9

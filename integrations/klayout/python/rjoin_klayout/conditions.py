@@ -18,10 +18,11 @@ LIMIT = 1_000_000_000_000
 DIGITS = 12
 DIMENSIONS = {"0": "points", "1": "lines", "2": "an area"}
 PARTS = ("interior", "boundary")
+IDS = ("left", "right")
 
 
 class Row(NamedTuple):
-    """A row of a report: the numbers of two shapes, and the text of the last column."""
+    """A row of a report: the numbers of two shapes, and the text of the last column, if any."""
 
     left: int
     right: int
@@ -38,12 +39,12 @@ class Place(NamedTuple):
 class Condition(ABC):
     """A question to rjoin about two layers, and the places of its pairs in the database.
 
-    `title` names it between two layers, `column` is the last one of the program's report.
+    `title` names it between two layers, `columns` are those of the program's report.
     """
 
     title: str
     about: str
-    column: str
+    columns: Sequence[str]
 
     @abstractmethod
     def words(self, layers: Sequence[Layer]) -> List[str]:
@@ -67,12 +68,15 @@ class Condition(ABC):
 
 
 class Relation(Condition):
-    """Pairs in a relation, or whose matrix fits a mask of nine letters."""
+    """Pairs in a relation, or whose matrix fits a mask of nine letters.
 
-    column = "matrix"
+    Without matrices the program computes none, and all pairs are in one category.
+    """
 
-    def __init__(self, name: str) -> None:
+    def __init__(self, name: str, matrices: bool) -> None:
         self.title = name
+        self.matrices = matrices
+        self.columns = (*IDS, "matrix") if matrices else IDS
         self.about = f"the left shape {name.replace('_', ' ')} the right one" if (
             name in RELATIONS) else f"the matrix fits {name}"
 
@@ -85,10 +89,10 @@ class Relation(Condition):
         return ["join", *self._asked()]
 
     def places(self, text: str) -> List[Place]:
-        return [Place(text, explained(text))]
+        return [Place(text, explained(text))] if self.matrices else []
 
     def _asked(self) -> List[str]:
-        return [f"--relation={self.title}"]
+        return [f"--relation={self.title}", *["--pairs"] * (not self.matrices)]
 
 
 def explained(matrix: str) -> str:
@@ -108,7 +112,7 @@ class Space(Condition):
     `limit` is the spacing in database units, rounded to whole ones as KLayout's DRC rounds it.
     """
 
-    column = "distance"
+    columns = (*IDS, "distance")
 
     def __init__(self, text: str, dbu: float) -> None:
         if not NUMBER.fullmatch(text) or Decimal(text) == 0:

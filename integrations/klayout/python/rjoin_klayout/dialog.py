@@ -46,6 +46,10 @@ class JoinDialog(pya.QDialog):
         self.merged.toolTip = "Else each shape counts as it is drawn: of metal that is cut up, " \
             "each piece by itself"
         self.form.addRow(self.merged)
+        self.matrices = pya.QCheckBox("Sort the pairs of a relation by their matrices", self)
+        self.matrices.checked = True
+        self.matrices.toolTip = "Without it, a join of other shapes than boxes takes less time"
+        self.form.addRow(self.matrices)
         self.buttons = pya.QDialogButtonBox(self)
         self.buttons.standardButtons = pya.QDialogButtonBox.Ok | pya.QDialogButtonBox.Cancel
         self.buttons.accepted(self.accept)
@@ -58,7 +62,7 @@ class JoinDialog(pya.QDialog):
         return Request(self.left.currentText, self.right.currentText,
                        "" if space else self.relation.currentText, space,
                        Reading(CHOICES[self.others.currentText], self.merged.checked,
-                               MODES[self.mode.currentText]))
+                               MODES[self.mode.currentText]), self.matrices.checked)
 
     def _choice(self, label: str, texts: Sequence[str]) -> pya.QComboBox:
         box = pya.QComboBox(self)

@@ -30,7 +30,8 @@ class Request(NamedTuple):
     """What is to be joined.
 
     A layer is named as KLayout names it: `1/0`, `METAL`, `METAL (1/0)`. The condition is either a
-    relation, by its name or a mask of nine letters, or a spacing, in micrometres.
+    relation, by its name or a mask of nine letters, or a spacing, in micrometres. `matrices` sorts
+    the pairs of a relation by their matrices.
     """
 
     left: str
@@ -38,12 +39,13 @@ class Request(NamedTuple):
     relation: str = ""
     space: str = ""
     reading: Reading = Reading()
+    matrices: bool = True
 
     def condition(self, dbu: float) -> Condition:
         """The condition, for a layout with this database unit."""
         if bool(self.relation) == bool(self.space):
             raise JoinError("one of relation and space is needed")
-        return Space(self.space, dbu) if self.space else Relation(self.relation)
+        return Space(self.space, dbu) if self.space else Relation(self.relation, self.matrices)
 
 
 def join_layers(layout: pya.Layout, cell: pya.Cell, request: Request) -> Report:
@@ -135,7 +137,7 @@ class _Join:
             words += ["--geometry", "any", "--rings", "even-odd"]
         report = folder / "report.csv"
         program.run([command, *map(str, paths), *words], report)
-        return _rows(report, self.condition.column)
+        return _rows(report, self.condition.columns)
 
     def _add_pairs(self, cell: pya.Cell, layers: Sequence[Layer], rows: Iterator[Row]) -> None:
         left, right = (Side(layer, title, self.layout.dbu)
@@ -187,10 +189,10 @@ class _Join:
         return text
 
 
-def _rows(report: Path, column: str) -> Iterator[Row]:
+def _rows(report: Path, columns: Sequence[str]) -> Iterator[Row]:
     with open(report, encoding="ascii", newline="") as file:
         rows = csv.reader(file)
-        if next(rows, None) != ["left", "right", column]:
+        if next(rows, None) != list(columns):
             raise program.ProgramError(f"{program.find_program()} wrote no report")
-        for left, right, text in rows:
-            yield Row(int(left), int(right), text)
+        for left, right, *text in rows:
+            yield Row(int(left), int(right), "".join(text))
