@@ -1,6 +1,7 @@
 """How the program is found, how its faults are told, and what is loaded when."""
 from __future__ import annotations
 
+import csv
 import os
 import pickle
 import signal
@@ -9,13 +10,13 @@ import sys
 import time
 import warnings
 from pathlib import Path
-from typing import Any, Callable, Dict
+from typing import Any, Callable, Dict, List
 
 import pytest
 from town import TOP, TOWN
 
 import rjoin
-from rjoin import found, program
+from rjoin import found, program, signals
 
 HEAVY = ("numpy", "pandas", "geopandas", "shapely", "fiona")
 
@@ -117,6 +118,18 @@ def test_the_version_is_that_of_the_program_and_is_asked_once(monkeypatch: Any, 
     for _ in range(3):
         rjoin.relate("POINT (0 0)", "POINT (0 0)")
     assert (tmp_path / "calls").read_text().split() == ["--version", *["relate"] * 3]
+
+
+def test_a_program_that_was_exchanged_is_asked_again(monkeypatch: Any, real: str,
+                                                     tmp_path: Path) -> None:
+    path = script(tmp_path / "rjoin", f'exec "{real}" "$@"')
+    monkeypatch.setenv("RJOIN", str(path))
+    assert rjoin.relate("POINT (0 0)", "POINT (0 0)") == "0FFFFFFF2"
+    before = path.stat().st_mtime_ns
+    path.write_text("#!/bin/sh\necho rjoin 0.1.0\n")
+    os.utime(path, ns=(before, before + 1))
+    with pytest.raises(rjoin.RjoinError, match="is rjoin 0.1.0, and rjoin 0.2 is needed"):
+        rjoin.relate("POINT (0 0)", "POINT (0 0)")
 
 
 def joined() -> Any:
@@ -268,6 +281,7 @@ def test_ids_and_texts_of_files_are_read_as_the_program_does(tmp_path: Path) -> 
     side = ", ".join(f"{place} 0" for place in range(30_000))
     layer.write_text(f'id,wkt\nlong,"POLYGON (({side}, 29999 1, 0 1, 0 0))"\n')
     assert rjoin.stats(layer).rectangles == 1
+    assert csv.field_size_limit() < len(side)  # which is the caller's
     layer.write_text('id,wkt\na,"POINT (1 2)\n' + "b,POINT (1 2)\n" * 20_000)
     with pytest.raises(rjoin.InputError, match=r"row 1 \(feature 'a'\): not a geometry text"):
         rjoin.stats(layer)
@@ -336,6 +350,26 @@ def test_a_caller_that_is_ended_leaves_nothing(monkeypatch: Any, tmp_path: Path,
     _, errors = caller.communicate(timeout=60)
     assert (caller.returncode, errors) == (status, f"rjoin: ended by {ending.name}\n")
     assert_nothing_left(tmp_path)
+
+
+def test_signals_are_the_callers_before_and_behind_a_call() -> None:
+    """Those that it handles, and those that it ignores; the others end as they did."""
+    came: List[int] = []
+    mine: Dict[int, Any] = {
+        signal.SIGTERM: lambda number, _: came.append(number), signal.SIGHUP: signal.SIG_IGN,
+        signal.SIGINT: signal.default_int_handler}
+    before = {number: signal.signal(number, handler) for number, handler in mine.items()}
+    try:
+        with signals.cleanly():
+            for number in (signal.SIGTERM, signal.SIGHUP):
+                os.kill(os.getpid(), number)
+            with pytest.raises(KeyboardInterrupt):
+                os.kill(os.getpid(), signal.SIGINT)
+        assert came == [signal.SIGTERM]
+        assert {number: signal.getsignal(number) for number in mine} == mine
+    finally:
+        for one, handler in before.items():
+            signal.signal(one, handler)
 
 
 @pytest.mark.parametrize("ending, status, line", (

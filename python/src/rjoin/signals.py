@@ -37,12 +37,13 @@ hold = Hold()
 
 
 def end(number: int, _frame: Any) -> None:
-    """Handles a signal by an exception, and all later ones not at all."""
+    """Handles a signal by an exception, and later ones not at all, but for those of the caller."""
     if hold.is_on:
         hold.came = hold.came or number
         return
     for one in STANDARD:
-        signal.signal(one, signal.SIG_IGN)
+        if signal.getsignal(one) is end:
+            signal.signal(one, signal.SIG_IGN)
     if number == signal.SIGINT:
         raise KeyboardInterrupt
     raise Ended(number)
