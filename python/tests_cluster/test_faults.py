@@ -152,12 +152,29 @@ def test_a_program_without_an_option(
     old, missing = tools.folder / "old", tools.folder / "missing.csv"
     old.write_text(f'#!/bin/sh\n[ "$2" = --help ] && exit\nexec {tools.program} "$@"\n')
     old.chmod(0o755)
-    for words, option in ((["--pairs"], "--pairs"), (["--geometry", "any"], "--geometry")):
+    skip = ["--skip", str(tools.folder / "skipped.csv")]
+    asked = ((["--pairs"], "--pairs"), (["--geometry", "any"], "--geometry"), (skip, "--skip"))
+    for words, option in asked:
         capfd.readouterr()
         words = tools.command(missing, missing, "within", *words, "--program", str(old))
         assert main(words) == 1
         line = f"rjoin-cluster: {old}: this version has no {option} for join\n"
         assert told(capfd.readouterr().err) == line
+
+
+@pytest.mark.parametrize("most", [3599, 3600])
+def test_more_pairs_of_features_than_can_be_numbered(
+    tools: Tools, most: int, capfd: pytest.CaptureFixture[str], monkeypatch: pytest.MonkeyPatch
+) -> None:
+    """A pair has a number of 64 bits, by the places of both features."""
+    from rjoin_cluster.command import main
+
+    monkeypatch.setattr(steps, "MOST_RANK", most)
+    layer = write_layer(tools.folder / "layer.csv", GOOD)
+    status = main(tools.command(layer, layer, "within"))
+    line = "rjoin-cluster: more than 3599 pairs of a left and a right feature\n"
+    assert (status, told(capfd.readouterr().err)) == ((0, "") if most == 3600 else (1, line))
+    assert tools.report().exists() == (most == 3600)
 
 
 def test_layers_without_blocks(tools: Tools, capfd: pytest.CaptureFixture[str]) -> None:

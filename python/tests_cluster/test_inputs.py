@@ -9,6 +9,7 @@ from typing import Callable
 import pytest
 from conftest import Tools, told, write_layer
 
+from rjoin_cluster.blocks import Extent
 from rjoin_cluster.faults import JoinFault
 from rjoin_cluster.inputs import Input, find_inputs
 from rjoin_cluster.sides import Side
@@ -59,20 +60,32 @@ def test_a_change_is_found_where_the_file_is_read(layer: Path) -> None:
         pass
 
 
+def test_bytes_that_have_gone_are_a_change(layer: Path) -> None:
+    """As where the file gets shorter once it is open."""
+    file = found(layer)
+    whole = Extent(file, 0, 0, file.bytes)
+    assert whole.read().tobytes() == layer.read_bytes()
+    with pytest.raises(JoinFault, match=CHANGED):
+        Extent(file, 0, 0, file.bytes + 1).read()
+
+
 PROGRAM = """#!/bin/sh
 if [ "$1" = join ]; then cp -p {layer} {layer}.$$ && mv {layer}.$$ {layer}; fi
 exec {program} "$@"
 """
 
 
+@pytest.mark.parametrize("side", ["left", "right"])
 def test_a_layer_that_is_replaced_while_it_is_joined(
-    tools_here: Tools, layer: Path, capfd: pytest.CaptureFixture[str]
+    tools_here: Tools, layer: Path, side: str, capfd: pytest.CaptureFixture[str]
 ) -> None:
     from rjoin_cluster.command import main
 
-    program = layer.with_name("rjoin")
+    program, other = layer.with_name("rjoin"), write_layer(layer.with_name("other.csv"), ROWS)
     program.write_text(PROGRAM.format(layer=layer, program=tools_here.program))
     program.chmod(0o755)
-    words = tools_here.command(layer, layer, "within", "--program", str(program))
-    assert (main(words), told(capfd.readouterr().err)) == (1, f"rjoin-cluster: {CHANGED}\n")
+    both = (layer, other) if side == "left" else (other, layer)
+    words = tools_here.command(*both, "within", "--program", str(program))
+    line = f"rjoin-cluster: {side}: the file was changed during the join\n"
+    assert (main(words), told(capfd.readouterr().err)) == (1, line)
     assert not tools_here.report().exists()

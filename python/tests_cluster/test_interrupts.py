@@ -87,6 +87,8 @@ def test_what_interrupts_leave_no_run_going_on(
     with running_group(tools.local_command(*pair, "intersects", *more)) as process:
         wait_for(tools, "pairs-*.rows", process)
         runs = psutil.Process(process.pid).children(recursive=True)
+        groups = {os.getpgid(run.pid) for run in runs if run.ppid() == process.pid}
+        assert groups and os.getpgid(process.pid) not in groups  # which the terminal's signals get
         process.send_signal(signal.SIGTERM)
         process.communicate(timeout=WAIT)
     assert [run for run in runs if run.is_running()] == []

@@ -195,6 +195,21 @@ def test_ends_of_lines_and_marks(
         assert not tools.report().exists()
 
 
+def test_a_run_has_one_thread(tools_here: Tools) -> None:
+    """As many runs go on beside each other as there are workers."""
+    log, program = tools_here.folder / "words", tools_here.folder / "rjoin"
+    program.write_text(f'#!/bin/sh\necho "$@" >>{log}\nexec {tools_here.program} "$@"\n')
+    program.chmod(0o755)
+    left, right = layers.write_pair(tools_here.folder, "close", 90)
+    for words in (["join", left, right, "--relation", "within"],
+                  ["nearest", left, right, "--distance", "60", "--most", "4"]):
+        log.unlink(missing_ok=True)
+        tools_here.check_command(words, "--tiles", "9", "--program", str(program))
+        lines = [line.split() for line in log.read_text().splitlines()]
+        runs = [line for line in lines if line[0] == words[0] and "--scale=0" in line]
+        assert len(runs) > 4 and sum("--workers=1" in run for run in runs) == len(runs) - 1
+
+
 def test_workers_of_this_machine(tools: Tools) -> None:
     """Without a scheduler, and by the name of the package."""
     import sys

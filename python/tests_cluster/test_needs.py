@@ -10,9 +10,10 @@ from typing import Callable
 import pytest
 from conftest import Tools, write_layer
 
+from rjoin_cluster.faults import Unfit
 from rjoin_cluster.inputs import find_inputs
 from rjoin_cluster.layout import Layout, save_bytes
-from rjoin_cluster.needs import TOKEN, Needs, lack_of
+from rjoin_cluster.needs import TOKEN, Needs, checked, lack_of
 from rjoin_cluster.program import Program
 from rjoin_cluster.reading import Reading
 
@@ -20,7 +21,8 @@ from rjoin_cluster.reading import Reading
 def test_what_a_worker_lacks(tools: Tools, monkeypatch: pytest.MonkeyPatch) -> None:
     layout, program = Layout(str(tools.folder)), Program(tools.program, Reading())
     layer = write_layer(tools.folder / "layer.csv", [("a", "POINT (1 1)")])
-    files = tuple(find_inputs(str(layer), str(layer)).values())
+    other = write_layer(tools.folder / "other.csv", [("b", "POINT (2 2)")])
+    files = tuple(find_inputs(str(layer), str(other)).values())
     needs = Needs(layout, program, program.version(), files)
     assert "No such file" in lack_of(needs)
     layout.token().write_bytes(b"of others")
@@ -33,11 +35,27 @@ def test_what_a_worker_lacks(tools: Tools, monkeypatch: pytest.MonkeyPatch) -> N
     shutil.copy2(layer, tools.folder / "copy")
     os.replace(tools.folder / "copy", layer)
     assert lack_of(needs) == ""
+    os.utime(other)
+    assert lack_of(needs) == f"{other} is another file"
     os.utime(layer)
     assert lack_of(needs) == f"{layer} is another file"
     monkeypatch.setattr("tempfile.tempdir", "/nowhere")
     lack = "temporary files cannot be written: /nowhere: No such file or directory"
     assert lack_of(replace(needs, files=())) == lack
+
+
+def test_a_task_of_a_process_that_was_not_checked(tools: Tools) -> None:
+    """Another one may have taken over the address of a worker that was."""
+    layout, program = Layout(str(tools.folder)), Program(tools.program, Reading())
+    needs, done = Needs(layout, program, program.version(), ()), list[int]()
+    with pytest.raises(Unfit, match="No such file"):
+        checked(needs, done.append, 1)
+    assert done == []
+    layout.token().write_bytes(TOKEN)
+    checked(needs, done.append, 2)
+    layout.token().unlink()  # which is looked at once
+    checked(needs, done.append, 3)
+    assert done == [2, 3]
 
 
 @pytest.mark.skipif(os.geteuid() != 0, reason="one has to be root to be another user")
