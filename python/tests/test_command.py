@@ -4,8 +4,10 @@ from __future__ import annotations
 import csv
 import sqlite3
 from pathlib import Path
-from typing import Any, List, Tuple
+from typing import Any, Dict, List, Tuple
 
+import numpy as np
+import pandas
 import pytest
 from town import TOWN
 
@@ -82,6 +84,29 @@ def test_a_file_that_is_there_is_kept(files: Any, tmp_path: Path, capsys: Any) -
     assert ends(words) == 2 and output.read_bytes() == before
     assert "--overwrite" in capsys.readouterr().err
     assert ends([*words, "--overwrite"]) == 0 and output.read_bytes() != before
+
+
+@pytest.mark.parametrize("name", ("out.gpkg", "out.geojson", "out.csv"))
+def test_fields_of_all_kinds_are_written(town: Any, tmp_path: Path, name: str) -> None:
+    """Without geometries, and missing ones too."""
+    count = len(town["parcels"])
+    fields: Dict[str, List[Any]] = {
+        "flag": [True, False] * count, "number": [7, 2 ** 40] * count,
+        "half": [0.5, np.nan] * count, "text": ["a,b", None] * count}
+    left = town["parcels"].assign(**{field: some[:count] for field, some in fields.items()})
+    left.to_file(tmp_path / "parcels.gpkg", driver="GPKG")
+    output = tmp_path / name
+    assert ends([tmp_path / "parcels.gpkg", TOWN / "roads.csv", "--relation", "touches", "-o",
+                 output, "--attributes", "--left-id", "id"]) == 0
+    rows = pandas.read_csv(output) if name == "out.csv" else geopandas.read_file(
+        output, ignore_geometry=True)
+    expected = left.set_index("id").loc[[one for one, _, _ in touching(town)]]
+    for field in fields:
+        ours, theirs = rows[field].tolist(), expected[field].tolist()
+        assert [one for one in ours if not pandas.isna(one)] == [
+            one for one in theirs if not pandas.isna(one)]
+        assert pandas.isna(ours).tolist() == pandas.isna(theirs).tolist()
+    assert isinstance(rows["flag"][0], (bool, np.bool_)) and rows["flag"].nunique() == 2
 
 
 def test_files_beside_the_output_are_kept(files: Any, tmp_path: Path, capsys: Any) -> None:
@@ -178,3 +203,21 @@ def test_what_is_left_out_is_listed(files: Any, tmp_path: Path, capsys: Any) -> 
         assert [row["exact"] == "True" for row in pairs if "exact" in row] == exact
         inexact = f"{exact.count(False)} of {len(pairs)} pairs rest on an envelope"
         assert (inexact in told) == (other == "envelope")
+
+
+@pytest.mark.parametrize("count", (10, 11, 25))
+def test_of_many_that_are_left_out_the_first_are_told(tmp_path: Path, count: int,
+                                                      capsys: Any) -> None:
+    lines = [f"n{row},POINT EMPTY\n" for row in range(count)]
+    (tmp_path / "layer.csv").write_text("".join(["id,wkt\n", *lines, "last,POINT (5 5)\n"]))
+    notices = tmp_path / "notices.csv"
+    assert ends([tmp_path / "layer.csv", TOWN / "parcels.csv", "--relation", "within", "--missing",
+                 "skip", "-o", tmp_path / "out.csv", "--notices", notices]) == 0
+    told = capsys.readouterr().err.splitlines()
+    assert told[:10] == [f"rjoin: left out: left: row {row + 1} (feature 'n{row}'): the geometry "
+                         "is empty" for row in range(10)]
+    assert told[10:] == ([f"rjoin: left out: {count - 10} more; --notices lists all"]
+                         if count > 10 else [])
+    listed = list(csv.reader(notices.open(newline="")))
+    assert listed[1:] == [["left out", "left", str(row + 1), f"n{row}", "the geometry is empty"]
+                          for row in range(count)]

@@ -11,6 +11,7 @@ import pytest
 from town import TOWN, rows_of
 
 import rjoin
+from rjoin import sheet
 
 geopandas = pytest.importorskip("geopandas")
 wkt = pytest.importorskip("shapely.wkt")
@@ -388,6 +389,31 @@ def test_window_and_stats_count_what_shapely_counts(town: Any) -> None:
         kinds = layer.geometry.geom_type.tolist()
         assert counts[:4] == (len(layer), kinds.count("Point"), kinds.count("LineString"),
                               kinds.count("Polygon"))
+
+
+def test_features_are_told_by_the_levels_of_their_index(town: Any) -> None:
+    """A label of several levels is a tuple of them."""
+    left = town["parcels"].set_index(["id", town["parcels"].index])
+    pairs = rjoin.pairs(left, town["roads"].set_index("id"), "crosses")
+    plain = rjoin.pairs(town["parcels"].set_index("id"), town["roads"], "crosses",
+                        ids="position")
+    assert pairs["left"].tolist() == [left.index[place] for place in plain["left"]]
+    assert pairs["left"].map(type).tolist() == [tuple] * len(pairs) and len(pairs)
+    met = rjoin.window(left, AREA)
+    assert met.tolist() == [left.index[place] for place in rjoin.window(left, AREA,
+                                                                        ids="position")]
+
+
+def test_a_layer_whose_file_the_program_would_not_read_is_refused(monkeypatch: Any) -> None:
+    """Before it is written; the last one that is read has as many bytes as a file may have."""
+    layer = series(["POINT (10 200)"] * 3)
+    size = len("id,wkt\n") + 3 * len("0,POINT(10 200)\n")
+    monkeypatch.setattr(sheet, "MOST_BYTES", size)
+    assert rjoin.stats(layer).points == 3
+    monkeypatch.setattr(sheet, "MOST_BYTES", size - 1)
+    with pytest.raises(rjoin.InputError, match=f"^layer: 3 features .* take {size} bytes, and the "
+                                               f"program reads {size - 1}"):
+        rjoin.stats(layer)
 
 
 def test_a_million_features_are_the_most() -> None:

@@ -230,6 +230,18 @@ def test_rows_without_a_partner_have_no_letters(town: Any) -> None:
     assert ours["matrix"].isna().any() and ours["matrix"].notna().any()
 
 
+@pytest.mark.parametrize("how", HOW)
+def test_a_join_without_any_pair_has_its_columns(town: Any, how: str) -> None:
+    """Whose rows have no letters and no distances, and are all of the side that is kept."""
+    far = town["stations"].set_geometry(town["stations"].translate(10_000, 0))
+    kept = {"inner": 0, "left": len(town["parcels"]), "right": len(far)}[how]
+    lettered = rjoin.sjoin(town["parcels"], far, "within", how, matrix=True)
+    near = rjoin.sjoin_nearest(town["parcels"], far, how, 5, distance_col="far")
+    for joined, name in ((lettered, "matrix"), (near, "far")):
+        assert len(joined) == kept and joined[name].isna().all()
+        assert joined.columns[-1] == name
+
+
 def test_empty_frames_have_no_pairs(town: Any) -> None:
     empty = town["roads"].iloc[:0]
     assert len(rjoin.sjoin(town["parcels"], empty)) == 0

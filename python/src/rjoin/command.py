@@ -5,8 +5,11 @@ import argparse
 import csv
 import sys
 import warnings
+from decimal import Decimal
+from math import isfinite
 from pathlib import Path
-from typing import Any, Iterator, List, NamedTuple, Optional, Sequence, TextIO, Tuple, Union
+from typing import Any, Callable, Iterator, List, NamedTuple, Optional, Sequence, TextIO, Tuple
+from typing import Union
 
 from rjoin import outputs, signals
 from rjoin.errors import ArgumentError, EnvelopeWarning, LeftOutWarning, Notice, RjoinError
@@ -14,13 +17,13 @@ from rjoin.found import VERSION
 
 SHOWN = 10
 INTERRUPTED = 130
-COLUMNS = ("left", "right", "matrix", "exact", "geometry")
 # What is known to keep rows without geometries; FlatGeobuf drops them.
 TABLES = (".csv", ".dbf", ".geojson", ".gpkg", ".json")
 HELP = """\
 LEFT and RIGHT are FILE or FILE:LAYER, of any kind that GDAL reads, or CSV with the header id,wkt.
-OUT gets a row for each pair: what identifies the two features, and the nine letters of DE-9IM. Its
-kind is that of its extension: .csv, .gpkg, .shp, .geojson and what else GDAL writes.
+OUT gets a row for each pair: what identifies the two features, and the nine letters of DE-9IM, or
+their distance. Its kind is that of its extension: .csv, .gpkg, .shp, .geojson and what else GDAL
+writes; - is standard output, which gets CSV.
 
 Exit status: 0 for success, 1 for a fault of a file or a feature, 2 for invalid arguments"""
 
@@ -54,12 +57,11 @@ def parser() -> argparse.ArgumentParser:
     known.add_argument("--version", action="version", version=f"rjoin for Python {VERSION}")
     known.add_argument("left", metavar="LEFT")
     known.add_argument("right", metavar="RIGHT")
-    known.add_argument("--relation", metavar="R", required=True,
-                       help="intersects, touches, crosses, within, contains, overlaps, equals, "
-                            "covers, covered_by, contains_properly, or a mask of nine letters")
+    add_questions(known)
     known.add_argument("-o", "--output", metavar="OUT", required=True, type=Path)
     known.add_argument("--overwrite", action="store_true", help="replace OUT if it is there")
-    known.add_argument("--geometry", action="store_true", help="add the left feature's geometry")
+    known.add_argument("--geometry", action="store_true",
+                       help="add the left feature's geometry; with --how right the right one's")
     known.add_argument("--attributes", action="store_true",
                        help="add the fields of both sides, with _left and _right behind the names "
                             "that both have")
@@ -67,6 +69,43 @@ def parser() -> argparse.ArgumentParser:
         known.add_argument(f"--{side}-id", metavar="FIELD",
                            help=f"the field that identifies a {side} feature; by default the id of "
                                 "a CSV file with the header id,wkt, and else the row from 0")
+    add_reading(known)
+    known.add_argument("--workers", metavar="N", type=workers,
+                       help="threads, 1 to 16; with auto, one per processor, and 16 at most")
+    known.add_argument("--notices", metavar="FILE", type=Path,
+                       help="write the features that were left out or replaced by their envelopes "
+                            "to a CSV file")
+    return known
+
+
+def add_questions(known: argparse.ArgumentParser) -> None:
+    """The options that say which features belong together, and which rows are kept."""
+    known.add_argument("--relation", "--predicate", metavar="R",
+                       help="intersects, touches, crosses, within, contains, overlaps, equals, "
+                            "covers, covered_by, contains_properly, a mask of nine letters, or "
+                            "dwithin, which is at most the distance of --distance apart")
+    known.add_argument("--nearest", metavar="N", type=int,
+                       help="in place of a relation: the N nearest right features of each left "
+                            "one, and those that are as far away as the last; with --how right the "
+                            "nearest left ones of each right one")
+    known.add_argument("--distance", metavar="D", type=distance,
+                       help="the greatest distance of a pair, in the units of the coordinates")
+    known.add_argument("--how", choices=("inner", "left", "right"), default="inner",
+                       help="left or right: the features of this side without a partner have a row "
+                            "too, whose other fields are empty")
+    known.add_argument("--incomplete", choices=("error", "mark"), default="error",
+                       help="treatment of rows whose partner may be a feature that is left out: "
+                            "refuse the join, or mark them by False in the field known")
+
+
+def add_reading(known: argparse.ArgumentParser) -> None:
+    """The options that say how layers are read."""
+    given = known.add_mutually_exclusive_group()
+    given.add_argument("--xy", metavar="X,Y", type=columns(2),
+                       help="the fields, such as LON,LAT, of the coordinates of a table, which has "
+                            "no geometries by itself")
+    given.add_argument("--geometry-column", metavar="FIELD", type=columns(1),
+                       help="the field of a table that has geometries as well-known text")
     known.add_argument("--scale", metavar="K", type=int,
                        help="decimals of a coordinate, 0 to 6; by default as many as are needed")
     known.add_argument("--decimals", metavar="K", type=decimals,
@@ -75,19 +114,14 @@ def parser() -> argparse.ArgumentParser:
     known.add_argument("--rings", choices=("even-odd", "proper"), default="even-odd",
                        help="treatment of polygons whose rings cross, overlap or are flat: read "
                             "them by the even-odd rule, or refuse them")
-    known.add_argument("--workers", metavar="N", type=workers,
-                       help="threads, 1 to 16; with auto, one per processor, and 16 at most")
     known.add_argument("--other", choices=("error", "envelope", "skip"), default="error",
                        help="treatment of geometries that are no points, lines or polygons; "
                             "envelope replaces all that are no point, axis-parallel segment or "
                             "rectangle, and the field exact of OUT is true for pairs that rest on "
                             "no envelope")
-    known.add_argument("--missing", choices=("error", "skip"), default="error",
-                       help="treatment of features whose geometry is empty or missing")
-    known.add_argument("--notices", metavar="FILE", type=Path,
-                       help="write the features that were left out or replaced by their envelopes "
-                            "to a CSV file")
-    return known
+    known.add_argument("--missing", choices=("error", "skip", "keep"), default="error",
+                       help="treatment of features whose geometry is empty or missing; kept ones "
+                            "have no partner")
 
 
 def decimals(text: str) -> Union[int, str]:
@@ -100,19 +134,41 @@ def workers(text: str) -> Union[int, str]:
     return text if text == "auto" else int(text)
 
 
-class Notices(NamedTuple):
-    """What the options --other and --missing did to features, and how many pairs are inexact.
+def columns(count: int) -> Callable[[str], Tuple[str, ...]]:
+    """The type of an option whose value has the names of so many fields."""
+    def named(text: str) -> Tuple[str, ...]:
+        names = tuple(text.split(",")) if count > 1 else (text,)
+        if len(names) != count or not all(names):
+            raise argparse.ArgumentTypeError(f"{text!r} has not the names of {count} fields")
+        return names
+    return named
 
-    decimals: those that --decimals auto rounded to.
+
+def distance(text: str) -> float:
+    """The value of --distance, which a float has to hold as it is written."""
+    try:
+        number = float(text)
+        if not isfinite(number) or Decimal(repr(number)) == Decimal(text):
+            return number
+    except (ValueError, ArithmeticError) as fault:
+        raise argparse.ArgumentTypeError(f"{text!r} is no number") from fault
+    raise argparse.ArgumentTypeError(f"{text} has more digits than a float")
+
+
+class Notices(NamedTuple):
+    """What the options --other and --missing did to features, and how many rows are inexact.
+
+    kind: what a row is. decimals: those that --decimals auto rounded to.
     """
 
     left_out: Tuple[Notice, ...]
     enveloped: Tuple[Notice, ...]
     inexact: int
-    pairs: int
+    rows: int
+    kind: str
     decimals: Optional[int]
 
-    def rows(self) -> Iterator[Tuple[Any, ...]]:
+    def lines(self) -> Iterator[Tuple[Any, ...]]:
         for name, notices in (("left out", self.left_out), ("envelope", self.enveloped)):
             for notice in notices:
                 yield (name, *notice)
@@ -120,31 +176,30 @@ class Notices(NamedTuple):
 
 def run(arguments: argparse.Namespace) -> Notices:
     """Joins, and writes each file whole or not at all."""
-    from rjoin import calls, relations
+    from rjoin import calls, matching, rows
 
     check_outputs(arguments)
-    relations.check(arguments.relation)
+    question = matching.question_of(arguments)
     reading = calls.reading_of(arguments.scale, arguments.decimals, arguments.rings,
                                arguments.workers)
-    left = layer(arguments.left, "left", arguments.left_id, reading.rounds)
-    right = layer(arguments.right, "right", arguments.right_id, reading.rounds)
-    pairs = calls.pairs(left, right, arguments.relation, scale=reading.scale,
-                        decimals=reading.decimals, rings=reading.rings, workers=arguments.workers,
-                        ids="position", other=arguments.other, missing=arguments.missing)
-    inexact = int((~pairs["exact"]).sum()) if "exact" in pairs.columns else 0
-    found = pairs.attrs["decimals"] if reading.decimals == "auto" else None
-    notices = Notices(pairs.attrs["left_out"], pairs.attrs["enveloped"], inexact, len(pairs), found)
+    left, right = layers(arguments, reading.rounds)
+    found = matching.asked((left, right), question, reading, arguments)
+    inexact = 0 if found.exact is None else int((~found.exact).sum())
+    kind = "pairs" if question.how == "inner" else "rows"
+    notices = Notices(found.left_out, found.enveloped, inexact, len(found.matches.pairs), kind,
+                      found.decimals if reading.decimals == "auto" else None)
     if arguments.notices:
         write_notices(notices, arguments.notices, arguments.overwrite)
-    rows = table(left, right, pairs, arguments)
-    outputs.write(rows, arguments.output, arguments.overwrite)
+    table = rows.table(left, right, found, question, arguments.attributes, arguments.geometry)
+    outputs.write(table, arguments.output, arguments.overwrite)
     return notices
 
 
 def check_outputs(arguments: argparse.Namespace) -> None:
     """Refuses, before anything is read, outputs that cannot be written."""
     output, notices = arguments.output, arguments.notices
-    for path in [output, notices] if notices else [output]:
+    files = [path for path in (output, notices) if path not in (None, outputs.STANDARD_OUTPUT)]
+    for path in files:
         if not path.parent.is_dir():
             raise ArgumentError(f"{path.parent} is no folder")
         outputs.refuse_taken(path, arguments.overwrite)
@@ -152,48 +207,36 @@ def check_outputs(arguments: argparse.Namespace) -> None:
         raise ArgumentError("--output and --notices are the same file")
     if not outputs.is_csv(output):
         outputs.driver_of(output)
-    if not arguments.geometry and output.suffix.lower() not in TABLES:
+    if not arguments.geometry and not (outputs.is_csv(output) or output.suffix.lower() in TABLES):
         raise ArgumentError(f"a file {output.suffix!r} needs geometries: add --geometry, or write "
                             f"one of {', '.join(TABLES)}")
 
 
-def layer(text: str, side: str, field: Optional[str], rounds: bool) -> Any:
+def layers(arguments: argparse.Namespace, rounds: bool) -> List[Any]:
+    """Both layers, their indices what identifies the features."""
+    from rjoin import files
+
+    given: Tuple[str, ...] = arguments.xy or arguments.geometry_column or ()
+    if given and not any(map(files.is_table, (arguments.left, arguments.right))):
+        raise ArgumentError("--xy and --geometry-column are for tables, and both layers have "
+                            "geometries by themselves")
+    return [layer(text, side, field, rounds, given)
+            for text, side, field in ((arguments.left, "left", arguments.left_id),
+                                      (arguments.right, "right", arguments.right_id))]
+
+
+def layer(text: str, side: str, field: Optional[str], rounds: bool,
+          given: Tuple[str, ...]) -> Any:
     """The layer, its index what identifies the features."""
     from rjoin import files
 
-    frame = files.read(text, side, rounds)
+    frame = files.read(text, side, rounds, given)
     if field is None and files.is_plain(files.place_of(text)):
         field = "id"
     if field is None:
         return frame
-    if field not in frame.columns:
-        names = ", ".join(str(name) for name in frame.columns if name != frame.geometry.name)
-        raise ArgumentError(f"{side} has no field {field!r}; it has {names}")
+    files.check_field([name for name in frame.columns if name != frame.geometry.name], field, side)
     return frame.set_index(field, drop=False)
-
-
-def table(left: Any, right: Any, pairs: Any, arguments: argparse.Namespace) -> Any:
-    """The rows to be written; a GeoDataFrame where geometries are asked for."""
-    import geopandas
-    import pandas
-
-    from rjoin.frames import Suffixes, named_apart
-
-    lefts, rights = pairs["left"].to_numpy(), pairs["right"].to_numpy()
-    rows = pandas.DataFrame({"left": left.index.take(lefts), "right": right.index.take(rights),
-                             "matrix": pairs["matrix"].astype(str)})
-    if "exact" in pairs.columns:
-        rows["exact"] = pairs["exact"].to_numpy()
-    if arguments.attributes:
-        ours, theirs = (fields.drop(columns=fields.geometry.name) for fields in (left, right))
-        ours, theirs = pandas.DataFrame(ours.take(lefts)), pandas.DataFrame(theirs.take(rights))
-        ours.columns, theirs.columns = named_apart(
-            list(ours.columns), list(theirs.columns), Suffixes("left", "right"), COLUMNS)
-        parts = [rows, ours.reset_index(drop=True), theirs.reset_index(drop=True)]
-        rows = pandas.concat(parts, axis=1)
-    if not arguments.geometry:
-        return rows
-    return geopandas.GeoDataFrame(rows, geometry=left.geometry.take(lefts).array, crs=left.crs)
 
 
 def write_notices(notices: Notices, path: Path, overwrite: bool) -> None:
@@ -201,7 +244,7 @@ def write_notices(notices: Notices, path: Path, overwrite: bool) -> None:
         with open(part, "w", newline="", encoding="utf-8") as file:
             rows = csv.writer(file, lineterminator="\n")
             rows.writerow(("what", *Notice._fields))
-            rows.writerows(notices.rows())
+            rows.writerows(notices.lines())
 
 
 def tell(notices: Notices, warned: List[str], file: TextIO) -> None:
@@ -217,5 +260,5 @@ def tell(notices: Notices, warned: List[str], file: TextIO) -> None:
         if len(some) > SHOWN:
             print(f"rjoin: {name}: {len(some) - SHOWN} more; --notices lists all", file=file)
     if notices.enveloped:
-        print(f"rjoin: {notices.inexact} of {notices.pairs} pairs rest on an envelope, as the "
-              "field exact says", file=file)
+        print(f"rjoin: {notices.inexact} of {notices.rows} {notices.kind} rest on an envelope, as "
+              "the field exact says", file=file)

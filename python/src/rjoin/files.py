@@ -6,17 +6,21 @@ import os
 from contextlib import contextmanager
 from itertools import islice
 from pathlib import Path
-from typing import Any, Dict, Iterable, Iterator, List, Mapping, NamedTuple, Optional
+from typing import Any, Dict, Iterable, Iterator, List, Mapping, NamedTuple, Optional, Tuple
 
+import numpy as np
 import pandas
 
 from rjoin import outputs, texts
-from rjoin.errors import InputError
+from rjoin.errors import ArgumentError, InputError
 
 HEADER = b"id,wkt"
 MOST_HEADER = len(b'"id","wkt"\r\n')
 MOST_BYTES = 134_217_728
 NUL = "a NUL character, behind which pandas doesn't read"
+
+# The names of the fields that have a table's geometries: one of texts, or one for each coordinate.
+Fields = Tuple[str, ...]
 
 
 class Place(NamedTuple):
@@ -86,10 +90,12 @@ def long_fields() -> Iterator[None]:
         csv.field_size_limit(before)
 
 
-def read(text: "str | os.PathLike[str]", side: str, rounds: bool = False) -> Any:
+def read(text: "str | os.PathLike[str]", side: str, rounds: bool = False,
+         fields: Fields = ()) -> Any:
     """The layer as a GeoDataFrame; ids of a file of the program's own form are the column `id`.
 
     In such a file a number with too many decimals is a fault, unless numbers will be rounded.
+    fields: those that have the geometries of a layer that has none by itself.
     """
     import geopandas
 
@@ -99,14 +105,84 @@ def read(text: "str | os.PathLike[str]", side: str, rounds: bool = False) -> Any
     try:
         if is_plain(place):
             return read_plain(place, side, rounds)
-        frame = read_by_gdal(place)
+        frame = read_by_gdal(place) if not fields or has_geometries(place) else None
+        table = read_table(place) if frame is None else None
     except InputError:
         raise
     except Exception as fault:
         raise InputError(side, f"{text} cannot be read: {fault}") from fault
+    if table is not None:
+        return with_geometries(table, fields, side, rounds)
     if not isinstance(frame, geopandas.GeoDataFrame):
         raise InputError(side, f"{text} has no geometries")
     return frame
+
+
+def is_table(text: "str | os.PathLike[str]") -> bool:
+    """Whether a file is there that GDAL reads as a layer without geometries."""
+    place = place_of(text)
+    try:
+        return not is_plain(place) and not has_geometries(place)
+    except Exception:  # GDAL's faults have no common class, and are told where the file is read
+        return True
+
+
+def has_geometries(place: Place) -> bool:
+    """Whether a layer that GDAL reads has geometries by itself."""
+    if outputs.has_pyogrio():
+        import pyogrio
+
+        return pyogrio.read_info(place.path, layer=place.layer)["geometry_type"] is not None
+    import fiona
+
+    with fiona.open(place.path, layer=place.layer) as layer:
+        return bool(layer.schema["geometry"] != "None")
+
+
+def read_table(place: Place) -> Any:
+    """The fields of a layer, without its geometries."""
+    import geopandas
+
+    named = {} if place.layer is None else {"layer": place.layer}
+    return pandas.DataFrame(geopandas.read_file(place.path, ignore_geometry=True, **named))
+
+
+def with_geometries(table: Any, fields: Fields, side: str, rounds: bool) -> Any:
+    """A table as a GeoDataFrame with the geometries that are in some of its fields.
+
+    The field that has them as texts isn't kept beside them.
+    """
+    for name in fields:
+        check_field(table.columns, name, side)
+    columns = [np.array([written(value) for value in table[name]], object) for name in fields]
+    (given,) = columns if len(fields) == 1 else [points_of(fields, columns, side)]
+    geometries, reason = texts.geometries_of(given, rounds)
+    if reason:
+        raise InputError(side, reason, len(geometries) + 1, len(geometries))
+    return frame_of(table.drop(columns=list(fields)) if len(fields) == 1 else table, geometries)
+
+
+def check_field(names: Iterable[Any], name: str, side: str) -> None:
+    """Refuses the name of a field that a layer has not."""
+    known = [str(one) for one in names]
+    if name not in known:
+        raise ArgumentError(f"{side} has no field {name!r}; it has {', '.join(known)}")
+
+
+def written(value: Any) -> Optional[str]:
+    """The text of a value of a field; None for one that is missing or blank."""
+    text = "" if pandas.isna(value) else str(value).strip()
+    return text or None
+
+
+def points_of(fields: Fields, columns: List[Any], side: str) -> Any:
+    """The texts of points by their coordinates; None where one is missing."""
+    wrong = [(row, name, value) for name, column in zip(fields, columns)
+             for row, value in enumerate(column) if value and not texts.is_number(value)]
+    if wrong:
+        row, name, value = min(wrong)
+        raise InputError(side, f"{name} is {value!r}, which is no number", row + 1, row)
+    return np.array([f"POINT ({x} {y})" if x and y else None for x, y in zip(*columns)], object)
 
 
 def read_by_gdal(place: Place) -> Any:

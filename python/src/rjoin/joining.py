@@ -246,18 +246,17 @@ class Job:
             found[column] = told.to_flat_index() if isinstance(told, pandas.MultiIndex) else told
         return found
 
-    def refuse_incomplete(self, place: int, otherwise: str = "") -> None:
+    def refuse_incomplete(self, place: int, remedy: str = "incomplete='mark'") -> None:
         """Refuses a join in which the partner of a row may be a feature that an input leaves out.
 
-        otherwise: how to be answered all the same, beside marks.
+        remedy: how to be answered all the same.
         """
         left_out = self.sources[place].left_out
         if left_out:
             first = left_out[0]
             raise InputError(
                 first.side, f"{first.reason}; {len(left_out)} features are left out here, any of "
-                f"which may be the partner of a row: take {otherwise}incomplete='mark'",
-                first.row, first.feature)
+                f"which may be the partner of a row: take {remedy}", first.row, first.feature)
 
     def are_exact(self, lefts: Rows, rights: Rows, relation: str) -> Flags:
         """Which rows of a result rest on no envelope; NOBODY may stand on one side of a row.
@@ -391,10 +390,19 @@ def joined(job: Job, relation: str, workers: Workers, matrix: bool) -> Any:
     return reported(job, ["join"], [*words, PAIRS], {}, wants_last=False)
 
 
-def within(job: Job, distance: Length, workers: Workers) -> Any:
-    """The pairs at most a distance apart as a frame with the columns left and right, ids."""
+def within(job: Job, distance: Length, workers: Workers, wants_distance: bool = False) -> Any:
+    """The pairs at most a distance apart as a frame with the columns left and right, ids, and
+    distance if it is wanted.
+    """
     words = [*distance.words(job.scale), *options(workers)]
-    return reported(job, ["near"], words, DISTANCE, wants_last=False)
+    found = reported(job, ["near"], words, DISTANCE, wants_distance)
+    return with_distances(job, found) if wants_distance else found
+
+
+def with_distances(job: Job, found: Any) -> Any:
+    """A report with its distances in the unit of the coordinates."""
+    found["distance"] = job.scale.numbers(found["distance"].to_numpy())
+    return found
 
 
 def nearest(job: Job, base: int, distance: Optional[Length], workers: Workers,
@@ -416,8 +424,7 @@ def nearest_of(job: Job, base: int, distance: Optional[Length], workers: Workers
     if most > 1:
         words += ["--most", str(most)]
     found = reported(job, ["nearest"], words, DISTANCE, wants_last=True, turned=base == 1)
-    found["distance"] = job.scale.numbers(found["distance"].to_numpy())
-    return found
+    return with_distances(job, found)
 
 
 def nearest_others(job: Job, base: int, distance: Optional[Length],

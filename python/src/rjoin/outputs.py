@@ -2,6 +2,7 @@
 from __future__ import annotations
 
 import os
+import sys
 import tempfile
 from contextlib import contextmanager
 from importlib.util import find_spec
@@ -12,6 +13,7 @@ from typing import Any, Dict, Iterable, Iterator, Mapping
 from rjoin.errors import ArgumentError, RjoinError
 
 PACKAGE_KEY = "fid"
+STANDARD_OUTPUT = Path("-")
 
 
 def refuse_taken(path: Path, overwrite: bool) -> None:
@@ -20,7 +22,7 @@ def refuse_taken(path: Path, overwrite: bool) -> None:
 
 
 def is_csv(path: Path) -> bool:
-    return path.suffix.lower() == ".csv"
+    return path == STANDARD_OUTPUT or path.suffix.lower() == ".csv"
 
 
 @contextmanager
@@ -43,6 +45,9 @@ def placed(output: Path, overwrite: bool) -> Iterator[Path]:
 
 def write(rows: Any, output: Path, overwrite: bool) -> None:
     """Writes a file of the kind of its extension, and the files that belong to it."""
+    if output == STANDARD_OUTPUT:
+        print_csv(rows)
+        return
     if is_csv(output):
         with placed(output, overwrite) as path:
             rows.to_csv(path, index=False, lineterminator="\n")
@@ -57,6 +62,19 @@ def write(rows: Any, output: Path, overwrite: bool) -> None:
                 write_table(rows, path, driver, options)
         except Exception as fault:  # GDAL's faults have no common class
             raise RjoinError(f"{output} cannot be written: {fault}") from fault
+
+
+def print_csv(rows: Any) -> None:
+    """Writes rows to standard output, whose reader may take some of them alone."""
+    text = rows.to_csv(index=False, lineterminator="\n")
+    try:
+        with open(os.dup(sys.stdout.fileno()), "w", encoding="utf-8", newline="") as file:
+            file.write(text)
+    except BrokenPipeError:
+        pass
+    except (AttributeError, OSError) as fault:  # there is none where it was closed before
+        reason = getattr(fault, "strerror", None) or "it is closed"
+        raise RjoinError(f"standard output cannot be written: {reason}") from fault
 
 
 def has_pyogrio() -> bool:

@@ -15,6 +15,7 @@ from rjoin.errors import ArgumentError
 if TYPE_CHECKING:
     import geopandas
 
+    from rjoin.frames import Flags, Matches
     from rjoin.frames import Rules as FrameRules
     from rjoin.joining import Job
     from rjoin.lengths import Length
@@ -75,7 +76,7 @@ def sjoin(left: "geopandas.GeoDataFrame", right: "geopandas.GeoDataFrame",
                          Rules(other, missing, keeps=True),
                          measure=Measure((length,)) if length else None)
     if how != "inner" and incomplete == "error":
-        job.refuse_incomplete(1 - rules.base, "how='inner', or ")
+        job.refuse_incomplete(1 - rules.base, "how='inner', or incomplete='mark'")
     job.warn_of_crs(depth=1, unknown=True)
     if length:
         found = joining.within(job, length, workers)
@@ -161,17 +162,29 @@ def result_of(job: "Job", both: Tuple[Any, Any], found: Any, rules: "FrameRules"
     for column, name in wanted.columns.items():
         frames.add_taken(result, name, found[column].to_numpy(), matches)
     exact = None
-    searched = job.sources[1 - rules.base]
     if wanted.exact:
-        exact = job.are_exact(matches.lefts, matches.rights, wanted.relation)
-        if wanted.relation == NEAREST:
-            exact &= not searched.enveloped
+        exact = are_exact(job, matches, wanted.relation, rules.base)
         frames.add_column(result, "exact", exact)
     if wanted.known:
-        known = matches.are_pairs & (wanted.relation != NEAREST) | (not searched.left_out)
+        known = are_known(job, matches, wanted.relation, rules.base)
         frames.add_column(result, "known", known)
     job.finish(result.attrs, depth=2, exact=exact)
     return result
+
+
+def are_exact(job: "Job", matches: "Matches", relation: str, base: int) -> "Flags":
+    """Which rows of a join whose base is this side rest on no envelope."""
+    exact = job.are_exact(matches.lefts, matches.rights, relation)
+    if relation == NEAREST:
+        exact &= not job.sources[1 - base].enveloped
+    return exact
+
+
+def are_known(job: "Job", matches: "Matches", relation: str, base: int) -> "Flags":
+    """In which rows no feature that is left out may be the partner, or a nearer one."""
+    known: "Flags" = matches.are_pairs & (relation != NEAREST) | (
+        not job.sources[1 - base].left_out)
+    return known
 
 
 def predicate_of(predicate: str, op: Optional[str]) -> str:

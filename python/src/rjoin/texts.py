@@ -28,6 +28,7 @@ KIND = r"(?:(?:MULTI)?(?:POINT|LINESTRING|POLYGON)|GEOMETRYCOLLECTION)(?:\s+(?:Z
 NOTHING = r"EMPTY(?!\s*[(A-Z])"
 TOKENS = re.compile(rf"(?:\s|[(),]|{KIND}|{NOTHING}|{FREE}(?=[\s(),]))*",
                     re.ASCII | re.IGNORECASE)
+NUMBERS = re.compile(FREE, re.ASCII | re.IGNORECASE)
 FIRST_TWO = re.compile(rf"[(,]\s*({FREE})\s+({FREE})", re.ASCII | re.IGNORECASE)
 EMPTY = re.compile(rf"\s*{KIND}\s+EMPTY\s*", re.ASCII | re.IGNORECASE)
 FINE = re.compile(r"\.[0-9]{%d,}[1-9]" % decimals.MOST)
@@ -50,6 +51,11 @@ def is_writable(text: str) -> bool:
     except UnicodeEncodeError:
         return False
     return True
+
+
+def is_number(text: str) -> bool:
+    """Whether the text is one number, in decimal digits."""
+    return NUMBERS.fullmatch(text) is not None
 
 
 def is_plain(text: str) -> bool:
