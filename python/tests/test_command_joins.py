@@ -248,7 +248,8 @@ def test_questions_that_make_no_sense_are_refused(layers: Tuple[Path, Path], cap
             (("--relation", "dwithin", "--distance", "0.1234567"), "has 7 decimals"),
             (("--nearest", "0"), "--nearest must be 1 to 4294967295, not 0"),
             (("--nearest", "4294967296"), "--nearest must be 1 to 4294967295"),
-            ((*within, "--incomplete", "mark"), "--incomplete mark is for --how left")):
+            ((*within, "--incomplete", "mark"), "--incomplete mark is for --how left"),
+            ((*within, "--notices", "-"), "--notices needs a file")):
         assert ends(areas, areas, *words, "-o", output) == 2, words
         lines = capsys.readouterr().err.splitlines()
         assert len(lines) == 1 and lines[0].startswith("rjoin: ") and told in lines[0], lines

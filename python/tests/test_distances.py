@@ -16,6 +16,7 @@ import rjoin
 from rjoin import joining
 
 geopandas = pytest.importorskip("geopandas")
+affinity = pytest.importorskip("shapely.affinity")
 shapely_geometry = pytest.importorskip("shapely.geometry")
 testing = pytest.importorskip("geopandas.testing")
 
@@ -271,6 +272,22 @@ def test_the_nearest_of_rings_that_are_not_proper() -> None:
     with pytest.warns(rjoin.ImproperRingsWarning, match="feature 'b'.*flat"):
         joined = rjoin.sjoin_nearest(point, flat, decimals=0)
     assert joined["index_right"].tolist() == ["a"]
+
+
+@pytest.mark.parametrize("how", ("inner", "right"))
+def test_all_rings_are_told_if_equal_features_are_left_out(how: str) -> None:
+    """Features that equal one other and those that equal none are asked for by runs of their
+    own."""
+    ties = [affinity.translate(BOW_TIE, 10 * place, 0) for place in range(5)]
+    base = geopandas.GeoDataFrame(geometry=ties, index=list("abcde"))
+    others = geopandas.GeoDataFrame(geometry=[*ties[1:3], shapely_geometry.Point(99, 1)])
+    frames = (base, others) if how == "inner" else (others, base)
+    with pytest.warns(rjoin.ImproperRingsWarning) as caught:
+        joined = rjoin.sjoin_nearest(*frames, how, exclusive=True)
+    sides = ("left", "right") if how == "inner" else ("right", "left")
+    told = str(caught[0].message)
+    assert f"{sides[0]}: 5 features: rings cross, overlap or are flat: row 1 (feature 'a')" in told
+    assert f"{sides[1]}: 2 features: " in told and len(joined) == 5
 
 
 BOW_TIE = shapely_geometry.Polygon([(0, 0), (4, 4), (4, 0), (0, 4)])

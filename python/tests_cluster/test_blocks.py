@@ -93,6 +93,30 @@ def test_a_block_of_more_features_than_a_run_takes(
     assert fault is not None and fault.row == 52
 
 
+CROSSING = '"POLYGON ((0 0, 4 4, 4 0, 0 4, 0 0))"'
+
+
+@pytest.mark.parametrize("few", [1, 7, 51, 1000])
+def test_what_is_told_of_a_block_counts_all_of_its_parts(
+    program: str, tmp_path: Path, few: int, monkeypatch: pytest.MonkeyPatch
+) -> None:
+    """Rows that are left out, and features with improper rings, which the others come before."""
+    monkeypatch.setattr(parts, "MOST_FEATURES", few)
+    bad, crossing, rows = (1, 9, 10, 50), (2, 8, 11, 12, 30, 49), list(GOOD)
+    for number in bad:
+        rows[number - 1] = (f"bad{number}", "POINT (1")
+    for number in crossing:
+        rows[number - 1] = (f"crossing{number}", CROSSING)
+    block = jobs_of(program, write_layer(tmp_path / "layer.csv", rows), 4000)[0].block
+    reading = Reading(geometry="any", rings="even-odd")
+    read = parts.features_of(Program(program, reading), 0, block.read(), skips=True)
+    assert (read.skipped.rows.tolist(), read.fault) == (list(bad), None)
+    kept = [number for number in range(1, 51) if number not in bad]
+    assert len(read.features.boxes) == len(kept)
+    assert [kept[number] for number in read.improper.first] == list(crossing[:5])
+    assert read.improper.features == len(crossing)
+
+
 @pytest.mark.parametrize("mark", [b"", BYTE_ORDER_MARK])
 @pytest.mark.parametrize("end", [b"\n", b"\r\n", b"\r"])
 @pytest.mark.parametrize("count", [0, 1, 9, WINDOW])

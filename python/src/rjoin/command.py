@@ -203,6 +203,8 @@ def check_outputs(arguments: argparse.Namespace) -> None:
         if not path.parent.is_dir():
             raise ArgumentError(f"{path.parent} is no folder")
         outputs.refuse_taken(path, arguments.overwrite)
+    if notices == outputs.STANDARD_OUTPUT:
+        raise ArgumentError("--notices needs a file")
     if notices and notices.resolve() == output.resolve():
         raise ArgumentError("--output and --notices are the same file")
     if not outputs.is_csv(output):

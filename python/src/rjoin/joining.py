@@ -113,9 +113,12 @@ class Job:
         return source
 
     def of_some(self, place: int, flags: Flags) -> "Job":
-        """The same with some of the features of a frame, which have new ids."""
+        """The same with some of the features of a frame, which have new ids.
+
+        What is told of their rings is not that of all, which `self` keeps.
+        """
         other = copy(self)
-        other.sources = list(self.sources)
+        other.sources, other.overlooked = list(self.sources), dict(self.overlooked)
         other.sources[place] = self.frame(place).chosen(flags)
         return other
 
