@@ -26,6 +26,13 @@ WAYS = [(round(1_000 * math.cos(turn * math.tau / DIRECTIONS)), round(1_000 * ma
 BLOB_VERTICES = 100
 GIANT_VERTICES = 100_000
 FEATURES_A_GIANT = 6_000
+# How many points there are to a district.
+POINTS_A_DISTRICT = 100
+# How many features of the other kinds there are to a strand, to two spikes and to a spot, and how many vertices of a
+# spiral to a feature.
+FEATURES_A_STRAND, FEATURES_A_SPIKE, FEATURES_A_SPOT, VERTICES_A_FEATURE = 10, 5, 200, 6
+STRAND_VERTICES = 10
+VERTICES_A_TURN, MOST_TURNS = 100, 100
 
 
 def side_of(size: int) -> int:
@@ -115,9 +122,16 @@ def roads(size: int, random: Random) -> Iterator[str]:
         yield f"LINESTRING ({listed(vertices)})"
 
 
+def points_in(count: int, side: int, random: Random) -> Iterator[str]:
+    return (f"POINT ({random.below(side)} {random.below(side)})" for _ in range(count))
+
+
 def points(size: int, random: Random) -> Iterator[str]:
-    side = side_of(size)
-    return (f"POINT ({random.below(side)} {random.below(side)})" for _ in range(size))
+    return points_in(size, side_of(size), random)
+
+
+def on_circle(centre: Vertex, radius: float, turn: float) -> Vertex:
+    return centre[0] + round(radius * math.cos(turn)), centre[1] + round(radius * math.sin(turn))
 
 
 def star(centre: Vertex, radius: int, size: int, random: Random) -> list[Vertex]:
@@ -125,17 +139,24 @@ def star(centre: Vertex, radius: int, size: int, random: Random) -> list[Vertex]
     length, most, vertices = radius, 1 + 12 * radius // size, []
     for place in range(size):
         length = min(max(random.about(length, most), radius // 2), radius)
-        turn = place * math.tau / size
-        vertices.append((centre[0] + round(length * math.cos(turn)), centre[1] + round(length * math.sin(turn))))
+        vertices.append(on_circle(centre, length, place * math.tau / size))
     return vertices
+
+
+def areas(count: int, side: int, radius: int, random: Random) -> Iterator[str]:
+    for _ in range(count):
+        centre = random.below(side), random.below(side)
+        yield polygon(star(centre, radius, BLOB_VERTICES, random))
 
 
 def blobs(size: int, random: Random) -> Iterator[str]:
     """Areas of a hundred vertices, as large as parcels."""
-    side = side_of(size)
-    for _ in range(size):
-        centre = random.below(side), random.below(side)
-        yield polygon(star(centre, 3 * DEPTH // 5, BLOB_VERTICES, random))
+    return areas(size, side_of(size), 3 * DEPTH // 5, random)
+
+
+def districts(size: int, random: Random) -> Iterator[str]:
+    """Few such areas, each as large as a hundred parcels."""
+    return areas(max(1, size // POINTS_A_DISTRICT), side_of(size), 3 * DEPTH // 5 * isqrt(POINTS_A_DISTRICT), random)
 
 
 def giants(size: int, random: Random) -> Iterator[str]:
@@ -144,3 +165,54 @@ def giants(size: int, random: Random) -> Iterator[str]:
     for _ in range(max(1, size // FEATURES_A_GIANT)):
         centre = quarter + random.below(2 * quarter), quarter + random.below(2 * quarter)
         yield polygon(star(centre, quarter, GIANT_VERTICES, random))
+
+
+def strand(start: int, length: int, random: Random) -> str:
+    """A polyline across the square, aslant."""
+    steps = range(STRAND_VERTICES)
+    vertices = [(random.about(start + at * length // steps[-1], JITTER), at * length // steps[-1]) for at in steps]
+    return f"LINESTRING ({listed(vertices)})"
+
+
+def strands(size: int, place: int, random: Random) -> Iterator[str]:
+    """Every second one of polylines beside each other, from this place on: the boxes of all meet, and no lines do."""
+    count = max(1, size // FEATURES_A_STRAND)
+    for at in range(count):
+        yield strand((2 * at + place) * STEP, 2 * count * STEP, random)
+
+
+def left_strands(size: int, random: Random) -> Iterator[str]:
+    return strands(size, 0, random)
+
+
+def right_strands(size: int, random: Random) -> Iterator[str]:
+    return strands(size, 1, random)
+
+
+def spiral(size: int, turned: float) -> Iterator[str]:
+    """A polyline of many turns from (0, 0) outwards."""
+    count = max(2 * VERTICES_A_TURN, VERTICES_A_FEATURE * size)
+    turn = math.tau / max(VERTICES_A_TURN, count // MOST_TURNS)
+    ways = ((STEP * at, turned + at * turn) for at in range(count))
+    yield f"LINESTRING ({listed([on_circle((0, 0), radius, way) for radius, way in ways])})"
+
+
+def left_spiral(size: int, _random: Random) -> Iterator[str]:
+    return spiral(size, 0)
+
+
+def right_spiral(size: int, _random: Random) -> Iterator[str]:
+    """Between the turns of the left one; they share their first point."""
+    return spiral(size, math.pi)
+
+
+def spikes(size: int, _random: Random) -> Iterator[str]:
+    """One star of long thin spikes."""
+    count, radius = max(3, 2 * size // FEATURES_A_SPIKE), side_of(size) // 2
+    yield polygon([on_circle((radius, radius), radius // 10 if at % 2 else radius, at * math.pi / count)
+                   for at in range(2 * count)])
+
+
+def spots(size: int, random: Random) -> Iterator[str]:
+    """A few points."""
+    return points_in(max(1, size // FEATURES_A_SPOT), side_of(size), random)

@@ -161,6 +161,10 @@ KINDS = {
     "roads": Kind(irregular.roads, irregular.parcels, "crosses", "any"),
     "crossings": Kind(irregular.roads, irregular.roads, "crosses", "any"),
     "zones": Kind(irregular.points, irregular.blobs, "within", "any"),
+    "districts": Kind(irregular.points, irregular.districts, "within", "any"),
+    "strands": Kind(irregular.left_strands, irregular.right_strands, "intersects", "any"),
+    "spirals": Kind(irregular.left_spiral, irregular.right_spiral, "touches", "any"),
+    "spikes": Kind(irregular.spots, irregular.spikes, "within", "any"),
     "giants": Kind(irregular.giants, irregular.parcels, "contains", "any"),
     "near-any": Kind(irregular.giants, irregular.parcels, "within 20000", "near any"),
 }
@@ -175,7 +179,7 @@ def expected(kind: str, relation: str, size: int) -> int | None:
         return max(1, size // TRACKS) * TRACKS * TRACKS
     if kind == "neighbours" and relation == "touches":
         return irregular.neighbours(size)
-    return None
+    return {("strands", "intersects"): 0, ("spirals", "touches"): 1}.get((kind, relation))
 
 
 def cadastre_pairs(relation: str, along: int) -> int | None:

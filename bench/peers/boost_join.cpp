@@ -80,7 +80,7 @@ void join_one(const Stretch& join, std::size_t at, std::string& text) {
         const Shape& right = join.right.shapes[item.second];
         const std::string matrix = boost::apply_visitor(MatrixOf(), left, right);
         if (fits_one(join.masks[left.which()][right.which()], matrix))
-            push_pair(text, join.left.rows[at], join.right.rows[item.second], matrix.c_str());
+            push_pair(text, join.left.rows[at], join.right.rows[item.second], matrix);
     }
 }
 

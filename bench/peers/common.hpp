@@ -41,12 +41,14 @@ struct Words {
     const char* right;
     std::string relation;
     unsigned workers;
-    bool is_plain;
+    std::string way;
+    std::string side;
 };
 
 inline Words words_of(int count, char** words) {
-    if (count != 5 && count != 6) throw std::runtime_error("LEFT RIGHT RELATION WORKERS [plain]");
-    return {words[1], words[2], words[3], unsigned(std::atoi(words[4])), count == 6};
+    if (count < 5 || count > 7) throw std::runtime_error("LEFT RIGHT RELATION WORKERS [WAY [right]]");
+    return {words[1], words[2], words[3], unsigned(std::atoi(words[4])), count > 5 ? words[5] : "",
+            count > 6 ? words[6] : ""};
 }
 
 using Masks = std::vector<std::string>;
@@ -103,6 +105,9 @@ void report(const char* header, std::size_t size, unsigned workers, Join join) {
     for (const auto& text : texts) std::fwrite(text.data(), 1, text.size(), stdout);
 }
 
-inline void push_pair(std::string& text, const Row& left, const Row& right, const char* answer) {
-    text.append(left.id).append(1, ',').append(right.id).append(1, ',').append(answer).append(1, '\n');
+// The answer is letters or a distance, or empty where the report has pairs alone.
+inline void push_pair(std::string& text, const Row& left, const Row& right, const std::string& answer) {
+    text.append(left.id).append(1, ',').append(right.id);
+    if (!answer.empty()) text.append(1, ',').append(answer);
+    text.append(1, '\n');
 }

@@ -38,7 +38,7 @@ GEOSGeometry* grown_envelope(GEOSContextHandle_t context, const GEOSGeometry* sh
 }
 
 void push_near(std::string& text, const Row& left, const Row& right, double distance) {
-    push_pair(text, left, right, std::to_string(std::llround(distance)).c_str());
+    push_pair(text, left, right, std::to_string(std::llround(distance)));
 }
 
 void join_near(GEOSContextHandle_t context, const Search& join, std::size_t at, std::string& text) {
