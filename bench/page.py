@@ -85,6 +85,8 @@ def page(options: Namespace, everyone: list[Program], rows: list[Row], wrong: li
 
 ![Seconds of each program](bench.svg)
 
+The picture has {of_picture(options)}; of joins that are measured twice, those without letters.
+
 {groups}
 
 ## What is joined
@@ -129,6 +131,10 @@ def by_processor(options: Namespace) -> str:
         return ""
     return (" The machine was busy with other work, so the page has the processor's seconds, which that distorts less, "
             "and no PostGIS, whose server does the work.")
+
+
+def of_picture(options: Namespace) -> str:
+    return "the processor's seconds by one thread" if options.processor else f"seconds by {options.workers} threads"
 
 
 def group(options: Namespace, title: str, rows: list[Row]) -> str:
@@ -229,8 +235,9 @@ def picture(options: Namespace, everyone: list[Program], rows: list[Row]) -> str
     table, and of joins without letters where there are such. A bar that would pass the edge is cut there, and its
     number stands beside it. The machine stands below."""
     cost = Cost(options.processor)
-    peers = list(dict.fromkeys(program.peer for program in everyone))
     shown = [(row, drawn(cost, row)) for row in shown_of(rows)]
+    peers = [peer for peer in dict.fromkeys(program.peer for program in everyone)
+             if any(peer in runs for _, runs in shown)]
     scale = (WIDTH - LABEL - BEHIND) / cut_of([runs for _, runs in shown], cost)
     first, top = legend(peers)
     parts = [first]
