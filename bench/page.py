@@ -243,7 +243,7 @@ def picture(options: Namespace, everyone: list[Program], rows: list[Row]) -> str
     parts = [first]
     for row, runs in shown:
         parts.append(bars(row, runs, peers, top, scale, cost))
-        top += BAR * len(runs) + GAP
+        top += BAR * max(2, len(runs)) + GAP
     foot = top + LETTER
     height = foot + GAP
     parts.append(f'<text x="8" y="{foot}" fill="#666666" font-size="10">{escape(machine())}</text>')
