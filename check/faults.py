@@ -15,7 +15,7 @@ from pathlib import Path
 ROOT = Path(__file__).resolve().parent.parent
 SPECS = ("relation_core/specs/FaultTexts", "wkt_core/specs/FaultTexts", "wkt_any_core/specs/FaultTexts",
          "layer_core/specs/FaultTexts", "row_core/specs/FaultTexts", "parallel_core/specs/Faults",
-         "run_core/specs/FaultTexts", "options_core/specs/OptionTexts", "command_core/specs/WordFaults")
+         "run_core/specs/FaultTexts", "pair_core/specs/OptionTexts", "command_core/specs/WordFaults")
 EQUATION = re.compile(r"^(\w+)(?: ([\w.]+|\(.*?\)))? = (.*)$")
 PART = re.compile(r'codes "([^"]*)"|(decimal) |(\w+_(?:text|words|word))\b(?: ([\w.]+|\([^()]*\)))?')
 LINE = re.compile(r"^\| `rjoin: ([^`]*)`")

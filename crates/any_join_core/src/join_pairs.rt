@@ -2,7 +2,7 @@
 
 ghost use Rattle.std.specs.Prelude.{IfOk, IfErr};
 ghost use Rattle.relation_core.specs.declared.relation.Relation.TheVariants as relations;
-ghost use Rattle.options_core.specs.Options.{batch_of, cut_of};
+ghost use Rattle.pair_core.specs.Options.{batch_of, cut_of};
 ghost use Rattle.parallel_core.specs.Faults.{IsWant};
 ghost use Rattle.filter_core.specs.Joins.{StandIn, IsJoinList, HasMarks};
 ghost use Rattle.refine_core.specs.Refinements.{pairs_of};
@@ -15,8 +15,7 @@ use any_geometry_core::AnyGeometry;
 use any_relation_core::AnyRelation;
 use filter_core::meeting_layers;
 use layer_core::Layer;
-use often_core::Side;
-use options_core::Options;
+use pair_core::{Options, Side};
 use parallel_core::JoinFault;
 use refine_core::refine_pairs;
 use std::sync::Wait;

@@ -16,7 +16,7 @@ pub use features::RelatedFeatures;
 pub use join::join_any;
 pub use join_pairs::join_any_pairs;
 pub use matching::{PreparedPair, are_related, matrix_of, related};
-pub use often_core::Side;
 pub use outcome::AnyOutcome;
+pub use pair_core::Side;
 pub use pairs::RelatedPairs;
 pub use prepared::{ForMatrices, PreparedLayer};

@@ -4,7 +4,7 @@ use Rattle.layer_core.specs.Layers.{Contents}
 use Rattle.filter_core.specs.Joins.{StandIn, IsJoinList}
 use Rattle.refine_core.specs.declared.refined.Refined.{Refined}
 use Rattle.near_core.specs.Lists.{HasAnswer}
-use Rattle.edge_distance_core.specs.declared.fraction.SquaredFraction.{SquaredFraction}
+use Rattle.distance_core.specs.declared.fraction.SquaredFraction.{SquaredFraction}
 use Rattle.any_near_core.specs.declared.features.NearGeometries.{NearGeometries}
 use Rattle.any_near_core.specs.declared.grown.GrownGeometry.{GrownGeometry}
 use Rattle.distance_core.specs.declared.nearness.Nearness.{Nearness}

@@ -10,7 +10,7 @@ use Rattle.plane_core.specs.Points.{Point}
 use Rattle.distance_core.specs.Units.{units_of}
 use Rattle.distance_core.specs.Distances.{AreWithin, scale_of}
 use Rattle.distance_core.specs.ShapePoints.{HasPoint, IsPointOf}
-use Rattle.edge_distance_core.specs.declared.fraction.SquaredFraction.{SquaredFraction}
+use Rattle.distance_core.specs.declared.fraction.SquaredFraction.{SquaredFraction}
 use Rattle.any_geometry_core.specs.AnyGeometries.{box_of}
 use Rattle.any_near_core.specs.declared.grown.GrownGeometry.{GrownGeometry}
 use Rattle.any_near_core.specs.Near.{AreNear, figure_of}

@@ -10,8 +10,8 @@ use Rattle.plane_core.proofs.PartScaleLemmas.{part_of-same_place}
 use Rattle.distance_core.specs.Distances.{difference, square, scaled_square, scale_of}
 use Rattle.distance_core.specs.ShapePoints.{IsPointOf}
 use Rattle.distance_core.proofs.SquareLemmas.{wide_scale}
-use Rattle.edge_distance_core.specs.declared.fraction.SquaredFraction.{SquaredFraction}
-use Rattle.edge_distance_core.specs.Fractions.{IsSquareOf, numerator_of}
+use Rattle.distance_core.specs.declared.fraction.SquaredFraction.{SquaredFraction}
+use Rattle.distance_core.specs.Fractions.{IsSquareOf, numerator_of}
 use Rattle.geometry_distance_core.specs.Skeletons.{AreApart}
 use Rattle.geometry_distance_core.proofs.DistanceLemmas.{no_distance}
 

@@ -3,8 +3,8 @@ use Rattle.std.proofs.Common.{◌≡◌, ◌↔◌, sym, subst}
 use Rattle.std.specs.Prelude.{Option, Some, IsSome, IfSome}
 use Rattle.distance_core.specs.declared.nearness.Nearness.{Nearness}
 use Rattle.distance_core.specs.declared.nearness.Nearness.TheVariants.{Apart}
-use Rattle.edge_distance_core.specs.declared.fraction.SquaredFraction.{SquaredFraction}
-use Rattle.edge_distance_core.specs.Fractions.{numerator_of}
+use Rattle.distance_core.specs.declared.fraction.SquaredFraction.{SquaredFraction}
+use Rattle.distance_core.specs.Fractions.{numerator_of}
 use Rattle.any_near_core.specs.declared.grown.GrownGeometry.{GrownGeometry}
 use Rattle.any_near_core.specs.Near.{figure_of, AreNear, AreWanted, HaveSquare}
 use Rattle.any_near_core.proofs.TouchLemmas.{touching}

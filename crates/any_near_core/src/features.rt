@@ -2,8 +2,7 @@
 
 use crate::measure::{PreparedPair, square_if_wanted};
 use crate::prepared::PreparedLayer;
-use distance_core::Nearness;
-use edge_distance_core::SquaredFraction;
+use distance_core::{Nearness, SquaredFraction};
 use refine_core::Condition;
 use std::alloc::{AllocError, Global};
 

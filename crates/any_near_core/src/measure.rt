@@ -4,13 +4,12 @@ ghost use Rattle.std.specs.Prelude.{◌≡◌, ◌≤◌, ◌↔◌, IfOk, IsSom
 ghost use Rattle.distance_core.specs.Units.{units_of};
 ghost use Rattle.distance_core.specs.Distances.{AreWithin};
 ghost use Rattle.distance_core.specs.ShapePoints.{IsPointOf};
-ghost use Rattle.edge_distance_core.specs.Fractions.{IsSquareOf};
+ghost use Rattle.distance_core.specs.Fractions.{IsSquareOf};
 ghost use Rattle.any_near_core.specs.Near.{AreNear, AreWanted, HaveSquare, figure_of};
 ghost use Rattle.any_near_core.specs.PreparedPairs.{AreOf};
 
 use crate::grown::GrownGeometry;
-use distance_core::{Distance, Nearness, is_within};
-use edge_distance_core::SquaredFraction;
+use distance_core::{Distance, Nearness, SquaredFraction, is_within};
 use geometry_distance_core::{MeasuredGeometry, square_within};
 use layer_core::Geometry as _;
 use plane_core::Geometry;

@@ -1,7 +1,7 @@
 //! The results of a join of any geometry by distance.
 
 use deliver_core::Outcome;
-use edge_distance_core::SquaredFraction;
+use distance_core::SquaredFraction;
 use refine_core::Refined;
 
 /// The near pairs of two layers, each with the square of its distance.

@@ -7,9 +7,9 @@ use Rattle.plane_core.specs.Figures.{Figure}
 use Rattle.distance_core.specs.Distances.{scaled_square, scale_of, AreWithin}
 use Rattle.distance_core.specs.ShapePoints.{IsPointOf}
 use Rattle.distance_core.proofs.SquareLemmas.{wide_scale}
-use Rattle.edge_distance_core.specs.declared.fraction.SquaredFraction.{SquaredFraction}
-use Rattle.edge_distance_core.specs.Fractions.{IsSquareOf, numerator_of}
-use Rattle.edge_distance_core.proofs.MeetingLemmas.{within_by_fraction}
+use Rattle.distance_core.specs.declared.fraction.SquaredFraction.{SquaredFraction}
+use Rattle.distance_core.specs.Fractions.{IsSquareOf, numerator_of}
+use Rattle.distance_core.proofs.MeetingLemmas.{within_by_fraction}
 use Rattle.any_geometry_core.specs.declared.geometry.AnyGeometry.{AnyGeometry}
 use Rattle.any_nearest_core.specs.Nearest.{HasPoints, IsNearer}
 use Rattle.any_nearest_core.specs.Orders.{IsLess}

@@ -6,7 +6,7 @@ use Rattle.std.specs.List.{AllZip}
 use Rattle.std.proofs.lemmas.List.{append-nil, get_or_default}
 use Rattle.std.proofs.lemmas.List.Elements.{All-contains_itself, All-head, All-tail, All-weaker}
 use Rattle.distance_core.specs.declared.query.Query.{Query}
-use Rattle.edge_distance_core.specs.declared.fraction.SquaredFraction.{SquaredFraction}
+use Rattle.distance_core.specs.declared.fraction.SquaredFraction.{SquaredFraction}
 use Rattle.layer_core.specs.Layers.{Feature, Contents, IsLayer, with_number, ShapeIs}
 use Rattle.refine_core.specs.declared.refined.Refined.{Refined}
 use Rattle.filter_core.proofs.NumberLemmas.{held_by_number, listed_by_number}

@@ -13,8 +13,8 @@ use Rattle.distance_core.specs.declared.query.Query.{Query}
 use Rattle.distance_core.specs.Queries.{most_of}
 use Rattle.distance_core.specs.Distances.{AreWithin, scale_of}
 use Rattle.distance_core.specs.ShapePoints.{IsPointOf}
-use Rattle.edge_distance_core.specs.declared.fraction.SquaredFraction.{SquaredFraction}
-use Rattle.edge_distance_core.specs.Fractions.{IsSquareOf}
+use Rattle.distance_core.specs.declared.fraction.SquaredFraction.{SquaredFraction}
+use Rattle.distance_core.specs.Fractions.{IsSquareOf}
 use Rattle.layer_core.specs.Layers.{Feature, Contents, with_number, ShapeIs}
 use Rattle.prepared_core.specs.Prepared.{FormIs}
 use Rattle.nearest_core.specs.declared.neighbour.Neighbour.{Neighbour}

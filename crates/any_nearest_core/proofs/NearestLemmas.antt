@@ -8,8 +8,8 @@ use Rattle.distance_core.specs.declared.query.Query.{Query}
 use Rattle.distance_core.specs.Queries.{most_of, within_of}
 use Rattle.distance_core.specs.Distances.{AreWithin}
 use Rattle.distance_core.specs.ShapePoints.{IsPointOf}
-use Rattle.edge_distance_core.specs.declared.fraction.SquaredFraction.{SquaredFraction}
-use Rattle.edge_distance_core.specs.Fractions.{IsSquareOf, IsNoMore}
+use Rattle.distance_core.specs.declared.fraction.SquaredFraction.{SquaredFraction}
+use Rattle.distance_core.specs.Fractions.{IsSquareOf, IsNoMore}
 use Rattle.layer_core.specs.Layers.{Feature, Contents, with_number}
 use Rattle.any_geometry_core.specs.declared.geometry.AnyGeometry.{AnyGeometry}
 use Rattle.any_geometry_core.specs.AnyGeometries.{figure_of}

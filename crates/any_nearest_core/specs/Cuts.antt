@@ -1,6 +1,6 @@
 -- The start of a sorted list of neighbours, up to the last that is as far away as one of them.
 use Rattle.std.specs.Prelude.{◌≡◌, ℕ, ◌-◌, ◌<◌, ◌≤◌, List, length, take, slice_index_or}
-use Rattle.edge_distance_core.specs.Fractions.{IsNoMore}
+use Rattle.distance_core.specs.Fractions.{IsNoMore}
 use Rattle.any_nearest_core.specs.declared.neighbour.AnyNeighbour.{AnyNeighbour}
 use Rattle.any_nearest_core.specs.Orders.{IsLess}
 

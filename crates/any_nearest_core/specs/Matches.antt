@@ -1,6 +1,6 @@
 -- The matches of left features of any geometry with the right ones that are nearest to them.
 use Rattle.std.specs.Prelude.{◌≡◌, ◌++◌, ℕ, List, map, Some}
-use Rattle.edge_distance_core.specs.declared.fraction.SquaredFraction.{SquaredFraction}
+use Rattle.distance_core.specs.declared.fraction.SquaredFraction.{SquaredFraction}
 use Rattle.layer_core.specs.Layers.{Feature, Contents, with_number}
 use Rattle.refine_core.specs.declared.refined.Refined.{Refined}
 use Rattle.distance_core.specs.declared.query.Query.{Query}

@@ -9,8 +9,8 @@ use Rattle.distance_core.specs.Units.{units_of}
 use Rattle.distance_core.specs.Queries.{most_of, within_of}
 use Rattle.distance_core.specs.Distances.{AreWithin}
 use Rattle.distance_core.specs.ShapePoints.{IsPointOf}
-use Rattle.edge_distance_core.specs.declared.fraction.SquaredFraction.{SquaredFraction}
-use Rattle.edge_distance_core.specs.Fractions.{numerator_of}
+use Rattle.distance_core.specs.declared.fraction.SquaredFraction.{SquaredFraction}
+use Rattle.distance_core.specs.Fractions.{numerator_of}
 use Rattle.layer_core.specs.Layers.{Feature, Contents, with_number}
 use Rattle.any_geometry_core.specs.declared.geometry.AnyGeometry.{AnyGeometry}
 use Rattle.any_nearest_core.specs.declared.neighbour.AnyNeighbour.{AnyNeighbour}

@@ -9,7 +9,7 @@ use Rattle.distance_core.specs.Units.{units_of}
 use Rattle.distance_core.specs.Queries.{most_of, within_of}
 use Rattle.distance_core.specs.Distances.{scaled_square, scale_of, AreWithin}
 use Rattle.distance_core.specs.ShapePoints.{IsPointOf}
-use Rattle.edge_distance_core.specs.Fractions.{IsSquareOf}
+use Rattle.distance_core.specs.Fractions.{IsSquareOf}
 use Rattle.layer_core.specs.Layers.{Feature, Contents, with_number}
 use Rattle.any_geometry_core.specs.declared.geometry.AnyGeometry.{AnyGeometry}
 use Rattle.any_geometry_core.specs.AnyGeometries.{figure_of}

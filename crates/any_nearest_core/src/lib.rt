@@ -14,7 +14,6 @@ mod of_layer;
 mod prepared;
 
 pub use any_geometry_core::AnyGeometry;
-pub use distance_core::{Distance, Query};
-pub use edge_distance_core::SquaredFraction;
+pub use distance_core::{Distance, Query, SquaredFraction};
 pub use layers::nearest_any_layers;
 pub use neighbour::AnyNeighbour;

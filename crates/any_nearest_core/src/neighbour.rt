@@ -3,7 +3,7 @@
 ghost use Rattle.std.specs.Prelude.{◌≡◌, OnOk, AllPairs, IsPermutation};
 ghost use Rattle.any_nearest_core.specs.Orders.{IsNoLater, order_of};
 
-use edge_distance_core::SquaredFraction;
+use distance_core::SquaredFraction;
 use std::alloc::AllocError;
 use std::cmp::Ordering;
 

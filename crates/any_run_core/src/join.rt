@@ -25,7 +25,7 @@ use file_core::{LayerReader, Unreadable};
 use format_core::AnyFormat;
 use join_core::{JoinJob, Output, can_be_made};
 use layer_core::Layer;
-use options_core::{Options, Product};
+use pair_core::{Options, Product};
 use report_core::Sink;
 use row_core::Source;
 use run_core::{

@@ -21,8 +21,8 @@ use Rattle.run_core.specs.ReportRuns.{ListReportGives, no_layers, reported}
 use Rattle.run_core.specs.EditedLayers.{IsJoinFault}
 use Rattle.join_core.specs.Products.{ProductGives, IsProductFault}
 use Rattle.run_core.specs.Runs.{Ends}
-use Rattle.options_core.specs.declared.product.Product.{Product}
-use Rattle.options_core.specs.declared.product.Product.TheVariants.{Report, Pairs, Picture}
+use Rattle.pair_core.specs.declared.product.Product.{Product}
+use Rattle.pair_core.specs.declared.product.Product.TheVariants.{Report, Pairs, Picture}
 use Rattle.words_core.specs.declared.condition.Condition.{Condition}
 use Rattle.words_core.specs.declared.condition.Condition.TheVariants.{Boxes, Any}
 use Rattle.words_core.specs.declared.words.Command.{Command}
@@ -33,8 +33,8 @@ use Rattle.words_core.specs.declared.words.NearRequest.{NearRequest}
 use Rattle.words_core.specs.declared.words.NearestRequest.{NearestRequest}
 use Rattle.words_core.specs.declared.condition.Geometries.{Geometries}
 use Rattle.words_core.specs.declared.condition.Geometries.TheVariants as kinds
-use Rattle.near_format_core.specs.NearFormats.{ReadsGrown}
-use Rattle.near_format_core.specs.AnyNearFormats.{ReadsGrownAny}
+use Rattle.any_near_core.specs.NearFormats.{ReadsGrown}
+use Rattle.any_near_core.specs.AnyNearFormats.{ReadsGrownAny}
 use Rattle.near_run_core.specs.declared.job.NearJob.{NearJob}
 use Rattle.near_run_core.specs.declared.job.NearestJob.{NearestJob}
 use Rattle.command_core.specs.Commands.{CommandGives, IsCommandText, BlamesCommand, IsFoundFirst, IsFoundNext, IsFaultOf, OrNoFile, CommandEnds}

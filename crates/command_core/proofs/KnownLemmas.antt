@@ -7,8 +7,8 @@ use Rattle.any_geometry_core.specs.declared.geometry.AnyGeometry.{AnyGeometry}
 use Rattle.any_relation_core.specs.AnyRelations.{rings_of}
 use Rattle.format_core.specs.Formats.{Reading, ReadsAny, ReadsBox}
 use Rattle.row_core.specs.declared.read_fault.ReadFault.{ReadFault}
-use Rattle.options_core.specs.declared.product.Product.{Product}
-use Rattle.options_core.specs.declared.product.Product.TheVariants.{Report, Pairs, Picture}
+use Rattle.pair_core.specs.declared.product.Product.{Product}
+use Rattle.pair_core.specs.declared.product.Product.TheVariants.{Report, Pairs, Picture}
 use Rattle.run_core.specs.declared.fault.Input.TheVariants as input
 use Rattle.run_core.specs.declared.fault.RunFault.{RunFault}
 use Rattle.run_core.specs.declared.fault.RunFault.TheVariants as run
@@ -23,8 +23,8 @@ use Rattle.words_core.specs.declared.condition.Geometries.{Geometries}
 use Rattle.words_core.specs.declared.condition.Geometries.TheVariants as geometries
 use Rattle.words_core.specs.declared.words.LayerPaths.{LayerPaths}
 use Rattle.command_core.specs.JoinResults.{IsConditionFault, OrNotStored, edits_at, files_read, known_bytes}
-use Rattle.near_format_core.specs.NearFormats.{ReadsGrown}
-use Rattle.near_format_core.specs.AnyNearFormats.{ReadsGrownAny}
+use Rattle.any_near_core.specs.NearFormats.{ReadsGrown}
+use Rattle.any_near_core.specs.AnyNearFormats.{ReadsGrownAny}
 use Rattle.near_run_core.specs.declared.job.NearJob.{NearJob}
 use Rattle.near_run_core.specs.declared.job.NearestJob.{NearestJob}
 use Rattle.near_run_core.specs.AnyNearRuns.{IsGrownImproper}

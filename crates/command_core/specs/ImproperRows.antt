@@ -6,7 +6,7 @@ use Rattle.std.specs.Borrow.{Bor}
 use Rattle.number_core.specs.declared.scale.Scale.{Scale}
 use Rattle.any_relation_core.specs.AnyRelations.{rings_of}
 use Rattle.format_core.specs.Formats.{ReadsAny}
-use Rattle.near_format_core.specs.AnyNearFormats.{ReadsGrownAny}
+use Rattle.any_near_core.specs.AnyNearFormats.{ReadsGrownAny}
 use Rattle.near_run_core.specs.declared.job.NearJob.{NearJob}
 use Rattle.near_run_core.specs.declared.job.NearestJob.{NearestJob}
 use Rattle.near_run_core.specs.AnyNearRuns.{IsGrownImproper}

@@ -5,7 +5,7 @@ use Rattle.number_core.specs.declared.scale.Scale.{Scale}
 use Rattle.format_core.specs.Formats.{Reading, ReadsAny, ReadsBox}
 use Rattle.file_core.specs.declared.skipped.Unreadable.{Unreadable}
 use Rattle.file_core.specs.declared.skipped.Unreadable.TheVariants.{Refuse, Skip}
-use Rattle.options_core.specs.declared.product.Product.{Product}
+use Rattle.pair_core.specs.declared.product.Product.{Product}
 use Rattle.any_relation_core.specs.AnyRelations.{rings_of}
 use Rattle.run_core.specs.declared.fault.Input.TheVariants.{Left, Right, Edits}
 use Rattle.run_core.specs.declared.fault.RunFault.{RunFault}

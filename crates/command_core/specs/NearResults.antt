@@ -3,8 +3,8 @@ use Rattle.std.specs.Prelude.{ℕ, List, Option, Result}
 use Rattle.std.specs.Borrow.{Bor}
 use Rattle.run_core.specs.declared.fault.RunFault.{RunFault}
 use Rattle.run_core.specs.EditedLayers.{IsJoinFault}
-use Rattle.near_format_core.specs.NearFormats.{ReadsGrown}
-use Rattle.near_format_core.specs.AnyNearFormats.{ReadsGrownAny}
+use Rattle.any_near_core.specs.NearFormats.{ReadsGrown}
+use Rattle.any_near_core.specs.AnyNearFormats.{ReadsGrownAny}
 use Rattle.near_run_core.specs.NearRuns.{NearGives}
 use Rattle.near_run_core.specs.AnyNearRuns.{AnyNearGives}
 use Rattle.near_run_core.specs.declared.job.NearJob.{NearJob}

@@ -6,8 +6,8 @@ use Rattle.std.specs.Borrow.{Bor}
 use Rattle.number_core.specs.declared.scale.Scale.{Scale}
 use Rattle.any_relation_core.specs.AnyRelations.{rings_of}
 use Rattle.format_core.specs.Formats.{ReadsAny, ReadsBox}
-use Rattle.near_format_core.specs.NearFormats.{ReadsGrown}
-use Rattle.near_format_core.specs.AnyNearFormats.{ReadsGrownAny}
+use Rattle.any_near_core.specs.NearFormats.{ReadsGrown}
+use Rattle.any_near_core.specs.AnyNearFormats.{ReadsGrownAny}
 use Rattle.near_run_core.specs.declared.job.NearJob.{NearJob}
 use Rattle.near_run_core.specs.declared.job.NearestJob.{NearestJob}
 use Rattle.run_core.specs.declared.fault.RunFault.{RunFault}

@@ -2,7 +2,7 @@
 use Rattle.std.specs.Prelude.{ℕ, true, false, List, ◌++◌, codes, string_bytes}
 use Rattle.relation_core.specs.FaultTexts.{mask_text, allows_disjoint_text}
 use Rattle.run_core.specs.Lines.{line_of}
-use Rattle.options_core.specs.OptionTexts.{option_text}
+use Rattle.pair_core.specs.OptionTexts.{option_text}
 use Rattle.words_core.specs.declared.words.WordFault.{WordFault}
 use Rattle.words_core.specs.declared.words.WordFault.TheVariants.{Usage, Relation, AllowsDisjoint}
 use Rattle.words_core.specs.declared.words.WordFault.TheVariants.{Options, Scale, Distance, Most}

@@ -2,9 +2,9 @@
 
 ghost use Rattle.std.specs.Prelude.{◌≡◌, min, MatchOption};
 ghost use Rattle.std.specs.Int.NonZero.{non_zero_usize_get};
-ghost use Rattle.options_core.specs.Options.{batch_of, cut_of, workers_of};
+ghost use Rattle.pair_core.specs.Options.{batch_of, cut_of, workers_of};
 
-use options_core::Options;
+use pair_core::Options;
 use std::num::NonZeroUsize;
 use std::thread::{Threads, available_parallelism};
 use words_core::Workers;

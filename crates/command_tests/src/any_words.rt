@@ -3,7 +3,7 @@
 use crate::read_words::{asks, is_refused, parted};
 use any_relation_core::AnyRelation;
 use number_core::{Rounding, Scale};
-use options_core::{Options, Product};
+use pair_core::{Options, Product};
 use plane_core::Rings;
 use relation_core::{AllowsDisjoint, JoinRelation, Mask, Relation};
 use std::alloc::Global;

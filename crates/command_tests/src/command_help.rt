@@ -3,7 +3,7 @@
 use crate::word_faults::{parted, shown};
 use draw_core::MAX_DRAWN;
 use layer_run_core::DEFAULT_WORKERS;
-use options_core::{MAX_BATCH, MAX_CUT, MAX_WORKERS};
+use pair_core::{MAX_BATCH, MAX_CUT, MAX_WORKERS};
 use std::alloc::Global;
 use std::test::Fail;
 

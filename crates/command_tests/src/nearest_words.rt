@@ -3,7 +3,7 @@
 use crate::read_words::{asks, is_refused};
 use distance_core::{Distance, Query};
 use number_core::{Rounding, Scale};
-use options_core::Options;
+use pair_core::Options;
 use plane_core::Rings;
 use std::test::Fail;
 use words_core::{Command, Geometries, LayerPaths, NearestRequest, Workers};

@@ -1,7 +1,7 @@
 //! The words of the commands, and their faults.
 
 use number_core::Scale;
-use options_core::{Options, Product};
+use pair_core::{Options, Product};
 use plane_core::Rings;
 use relation_core::{JoinRelation, Relation};
 use std::alloc::Global;

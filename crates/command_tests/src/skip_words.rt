@@ -3,7 +3,7 @@
 use crate::read_words::{asks, is_refused};
 use distance_core::{Distance, Nearness};
 use number_core::Scale;
-use options_core::{Options, Product};
+use pair_core::{Options, Product};
 use plane_core::Rings;
 use relation_core::{JoinRelation, Relation};
 use std::test::Fail;

@@ -1,7 +1,7 @@
 //! The lines of faults of words, and the status that they end with.
 
 use command_core::{NotOpened, WordFault, read_words, word_line, word_status};
-use options_core::OptionFault;
+use pair_core::OptionFault;
 use relation_core::MaskFault;
 use report_core::ToWrite;
 use std::alloc::Global;

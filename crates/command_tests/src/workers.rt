@@ -1,7 +1,7 @@
 //! The number of workers that words ask for.
 
 use crate::read_words::{is_refused, parted};
-use options_core::{MAX_WORKERS, Options};
+use pair_core::{MAX_WORKERS, Options};
 use std::alloc::Global;
 use std::test::Fail;
 use words_core::{Command, Workers, read_words};

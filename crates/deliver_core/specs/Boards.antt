@@ -6,7 +6,7 @@ use Rattle.atomic_table.specs.declared.shared.Seat.{Seat}
 use Rattle.deliver_core.specs.declared.board.rule.SeatView.{SeatView}
 use Rattle.deliver_core.specs.declared.board.rule.Size.{Size}
 use Rattle.deliver_core.specs.Draws.{SeatState, seat_after}
-use Rattle.options_core.specs.Limits.{most_workers}
+use Rattle.pair_core.specs.Limits.{most_workers}
 
 -- a board: its identity, its number of tasks and its number of seats
 pub record BoardValue : Type 0 where

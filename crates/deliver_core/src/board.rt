@@ -5,7 +5,7 @@ ghost use Rattle.std.specs.Prelude.{Any, None, IfSome, IfNone, IfOk, map, replic
 ghost use Rattle.std.specs.Prelude.{flat_map};
 ghost use Rattle.deliver_core.specs.Draws.{AreNumbersBelow};
 ghost use Rattle.deliver_core.specs.BoardRule.{ObeysRule};
-ghost use Rattle.options_core.specs.Limits.{most_workers};
+ghost use Rattle.pair_core.specs.Limits.{most_workers};
 ghost use Rattle.deliver_core.specs.declared.board.rule.SeatView.{SeatView};
 
 mod rule;
@@ -44,7 +44,7 @@ impl Board {
     ghost use Rattle.deliver_core.specs.Boards.{IsAfterNumber, IsAfterEnd, IsDraw};
 
     /// A board of `tasks` tasks and its seats, which have drawn nothing. There are at most
-    /// [`options_core::MAX_WORKERS`] seats.
+    /// [`pair_core::MAX_WORKERS`] seats.
     pub fn new(alloc: Global, tasks: u32, seats: u32) -> Result<(Board, Vec<BoardSeat>), AllocError>
         requires { (1 ≤ seats) × (seats ≤ most_workers) }
         ensures board { IfOk result (λ r. (r.0.tasks ≡ tasks) × (r.0.seats ≡ seats)) }

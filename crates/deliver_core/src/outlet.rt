@@ -40,7 +40,7 @@ impl Outlet {
     ghost use Rattle.deliver_core.specs.PassViews.{sender_of, is_receiver, sent_of};
     ghost use Rattle.deliver_core.specs.Ports.{index_of, is_spent, sent_by, taken_by, met_by};
     ghost use Rattle.deliver_core.specs.Ports.{port_count, room_of, IsTapOf};
-    ghost use Rattle.options_core.specs.Limits.{most_workers};
+    ghost use Rattle.pair_core.specs.Limits.{most_workers};
 
     /// An outlet of [`MAX_WAITING`] messages, its `ports` ports in the order of their indexes, and
     /// its tap. It fails only if memory runs out.

@@ -1,4 +1,12 @@
+pub mod ApartLemmas
 pub mod AxisLemmas
 pub mod CellLemmas
+pub mod DotLemmas
+pub mod EdgeLemmas
+pub mod FarLemmas
+pub mod FrameLemmas
 pub mod GapLemmas
+pub mod LeastLemmas
+pub mod MeetingLemmas
+pub mod RingLemmas
 pub mod SquareLemmas

@@ -1,4 +1,7 @@
 pub mod Distances
+pub mod FractionRoots
+pub mod Fractions
+pub mod Frames
 pub mod Gaps
 pub mod Limits
 pub mod Queries

@@ -3,14 +3,14 @@
 ghost use Rattle.std.specs.Prelude.{◌≡◌, IfOk, IfErr};
 ghost use Rattle.relation_core.specs.JoinRelations.{relation_of};
 ghost use Rattle.relation_core.specs.declared.relation.Relation.TheVariants as relations;
-ghost use Rattle.options_core.specs.Options.{batch_of, cut_of};
+ghost use Rattle.pair_core.specs.Options.{batch_of, cut_of};
 ghost use Rattle.parallel_core.specs.Faults.{IsWant};
 ghost use Rattle.filter_core.specs.Joins.{BoxesMeet, StandIn, IsJoinList, HasMarks};
 
 use crate::pairs::join_layers;
 use deliver_core::Outcome;
 use layer_core::{Geometry, Layer};
-use options_core::Options;
+use pair_core::Options;
 use parallel_core::JoinFault;
 use relation_core::{JoinRelation, Relation};
 use std::sync::Wait;

@@ -3,7 +3,7 @@
 ghost use Rattle.std.specs.Prelude.{IfOk, IfErr};
 ghost use Rattle.relation_core.specs.JoinRelations.{relation_of};
 ghost use Rattle.descent_core.specs.Plans.{IsPlan};
-ghost use Rattle.options_core.specs.Options.{batch_of, cut_of};
+ghost use Rattle.pair_core.specs.Options.{batch_of, cut_of};
 ghost use Rattle.parallel_core.specs.Faults.{IsWant};
 ghost use Rattle.filter_core.specs.Joins.{BoxesStandIn, StandIn, IsJoinList};
 ghost use Rattle.filter_core.specs.Joins.{HasMarks, RowsAreJoinList};
@@ -11,7 +11,7 @@ ghost use Rattle.filter_core.specs.Joins.{HasMarks, RowsAreJoinList};
 use deliver_core::Outcome;
 use descent_core::Plan;
 use layer_core::{Geometry, Layer};
-use options_core::Options;
+use pair_core::Options;
 use parallel_core::{Gate, Gated, JoinFault, run_workers};
 use relation_core::JoinRelation;
 use std::alloc::{AllocError, Global};

@@ -5,9 +5,9 @@ use Rattle.std.proofs.lemmas.Int.{ints, by_lt_z}
 use Rattle.plane_core.specs.Points.{Point}
 use Rattle.plane_core.proofs.Ring.{monomials}
 use Rattle.plane_core.proofs.Signs.{times_not_negative, times_positive, wide_z}
-use Rattle.edge_distance_core.proofs.RingLemmas.{le_trans_z, le_cancelled, times_le, square_not_negative, square_le}
-use Rattle.edge_distance_core.proofs.FrameLemmas.{off, off_x, off_y}
-use Rattle.edge_distance_core.proofs.FarLemmas.{scale, IsFar}
+use Rattle.distance_core.proofs.RingLemmas.{le_trans_z, le_cancelled, times_le, square_not_negative, square_le}
+use Rattle.distance_core.proofs.FrameLemmas.{off, off_x, off_y}
+use Rattle.distance_core.proofs.FarLemmas.{scale, IsFar}
 use Rattle.noding_core.proofs.WayLemmas.{IsOnWay, on_way_wide}
 
 off-way : (p q z : Point) (way : IsOnWay p q z) → off z q ≡ (pos way.s *ℤ pos way.s) *ℤ off p q

@@ -10,11 +10,11 @@ use Rattle.distance_core.specs.Units.{units_of}
 use Rattle.distance_core.specs.Distances.{scaled_square, scale_of, AreWithin}
 use Rattle.distance_core.specs.ShapePoints.{IsPointOf}
 use Rattle.distance_core.proofs.SquareLemmas.{wide_scale}
-use Rattle.edge_distance_core.specs.declared.fraction.SquaredFraction.{SquaredFraction}
-use Rattle.edge_distance_core.specs.Fractions.{IsSquareOf, numerator_of}
-use Rattle.edge_distance_core.proofs.FarLemmas.{far_turned}
-use Rattle.edge_distance_core.proofs.LeastLemmas.{from_far, to_far}
-use Rattle.edge_distance_core.proofs.MeetingLemmas.{within_by_fraction}
+use Rattle.distance_core.specs.declared.fraction.SquaredFraction.{SquaredFraction}
+use Rattle.distance_core.specs.Fractions.{IsSquareOf, numerator_of}
+use Rattle.distance_core.proofs.FarLemmas.{far_turned}
+use Rattle.distance_core.proofs.LeastLemmas.{from_far, to_far}
+use Rattle.distance_core.proofs.MeetingLemmas.{within_by_fraction}
 use Rattle.geometry_distance_core.specs.declared.nearest.Nearest.{Nearest}
 use Rattle.geometry_distance_core.specs.NearestPairs.{Pairs, IsLeastOf, IsFound, IsZero, IsNearest}
 use Rattle.geometry_distance_core.specs.Skeletons.{is_on_skeleton, IsOnSkeleton, AreApart}

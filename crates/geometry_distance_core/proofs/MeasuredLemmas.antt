@@ -33,11 +33,11 @@ use Rattle.noding_core.proofs.ReadOffLemmas.{among_each}
 use Rattle.distance_core.specs.ShapePoints.{HasPoint}
 use Rattle.distance_core.specs.Units.{units_of}
 use Rattle.distance_core.specs.Distances.{scaled_square, scale_of, IsSquaredDistance}
-use Rattle.edge_distance_core.specs.declared.fraction.SquaredFraction.{SquaredFraction}
-use Rattle.edge_distance_core.specs.Fractions.{IsNoFarther, numerator_of}
-use Rattle.edge_distance_core.proofs.FarLemmas.{far_turned}
-use Rattle.edge_distance_core.proofs.LeastLemmas.{from_far, to_far}
-use Rattle.edge_distance_core.proofs.MeetingLemmas.{scaled_turned, scale_turned}
+use Rattle.distance_core.specs.declared.fraction.SquaredFraction.{SquaredFraction}
+use Rattle.distance_core.specs.Fractions.{IsNoFarther, numerator_of}
+use Rattle.distance_core.proofs.FarLemmas.{far_turned}
+use Rattle.distance_core.proofs.LeastLemmas.{from_far, to_far}
+use Rattle.distance_core.proofs.MeetingLemmas.{scaled_turned, scale_turned}
 use Rattle.geometry_distance_core.specs.declared.nearest.Nearest.{Nearest}
 use Rattle.geometry_distance_core.specs.NearestPairs.{IsFound, IsNearest, IsPast, AddsPairs, is_on_any, of_each, of_all}
 use Rattle.geometry_distance_core.specs.Skeletons.{is_on_skeleton, IsOnSkeleton}

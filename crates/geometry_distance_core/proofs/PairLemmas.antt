@@ -6,10 +6,10 @@ use Rattle.plane_core.specs.Points.{Point}
 use Rattle.distance_core.specs.Units.{units_of}
 use Rattle.distance_core.specs.Distances.{scaled_square, scale_of, IsAtMost, IsAtLeast}
 use Rattle.distance_core.proofs.SquareLemmas.{wide_scale}
-use Rattle.edge_distance_core.specs.declared.fraction.SquaredFraction.{SquaredFraction}
-use Rattle.edge_distance_core.specs.Fractions.{IsNoFarther, IsNoNearer, IsNoMore, numerator_of}
-use Rattle.edge_distance_core.proofs.LeastLemmas.{from_far, to_far}
-use Rattle.edge_distance_core.proofs.MeetingLemmas.{far_lesser}
+use Rattle.distance_core.specs.declared.fraction.SquaredFraction.{SquaredFraction}
+use Rattle.distance_core.specs.Fractions.{IsNoFarther, IsNoNearer, IsNoMore, numerator_of}
+use Rattle.distance_core.proofs.LeastLemmas.{from_far, to_far}
+use Rattle.distance_core.proofs.MeetingLemmas.{far_lesser}
 use Rattle.geometry_distance_core.specs.declared.nearest.Nearest.{Nearest}
 use Rattle.geometry_distance_core.specs.NearestPairs.{Pairs, IsLeastOf, IsFound, IsNearest, IsPastAll, IsPast, AddsPairs}
 

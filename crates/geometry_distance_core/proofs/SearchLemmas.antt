@@ -14,8 +14,8 @@ use Rattle.rtree_core.specs.declared.node.Node.{Node}
 use Rattle.rtree_core.specs.Nodes.{entries_of}
 use Rattle.distance_core.specs.ShapePoints.{HasPoint}
 use Rattle.distance_core.specs.Distances.{IsSquaredDistance}
-use Rattle.edge_distance_core.specs.declared.fraction.SquaredFraction.{SquaredFraction}
-use Rattle.edge_distance_core.specs.Fractions.{IsSquareOf, IsOnEdge}
+use Rattle.distance_core.specs.declared.fraction.SquaredFraction.{SquaredFraction}
+use Rattle.distance_core.specs.Fractions.{IsSquareOf, IsOnEdge}
 use Rattle.edge_index_core.specs.Bounds.{IsBoxOf}
 use Rattle.edge_index_core.specs.Runs.{run_len, HoldsEdge}
 use Rattle.edge_index_core.specs.Trees.{IsEntryIn, HoldsEdges}

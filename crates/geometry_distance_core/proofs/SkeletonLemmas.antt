@@ -9,10 +9,10 @@ use Rattle.plane_core.specs.Points.{Point, is_on, is_at, is_below}
 use Rattle.plane_core.specs.Figures.{Figure, edges, is_odd, IsGeometry, part_of, edges_of, points_of, end_count}
 use Rattle.plane_core.specs.Figures.Figure.{Points, Lines, Areas}
 use Rattle.distance_core.specs.ShapePoints.{IsPointOf}
-use Rattle.edge_distance_core.specs.Fractions.{IsLeastFraction}
-use Rattle.edge_distance_core.proofs.FarLemmas.{far_turned}
-use Rattle.edge_distance_core.proofs.LeastLemmas.{from_far, to_far}
-use Rattle.edge_distance_core.proofs.MeetingLemmas.{reach_within}
+use Rattle.distance_core.specs.Fractions.{IsLeastFraction}
+use Rattle.distance_core.proofs.FarLemmas.{far_turned}
+use Rattle.distance_core.proofs.LeastLemmas.{from_far, to_far}
+use Rattle.distance_core.proofs.MeetingLemmas.{reach_within}
 use Rattle.noding_core.specs.Nodes.{IsAmong}
 use Rattle.noding_core.proofs.TestLemmas.{by_test, clash}
 use Rattle.noding_core.proofs.OffPartLemmas.{IsOffAll, off_part-is}

@@ -7,8 +7,8 @@ use Rattle.plane_core.specs.Points.{Point, is_on}
 use Rattle.rtree_core.specs.declared.node.Entry.{Entry}
 use Rattle.distance_core.specs.Units.{units_of}
 use Rattle.distance_core.specs.Distances.{IsAtMost}
-use Rattle.edge_distance_core.specs.declared.fraction.SquaredFraction.{SquaredFraction}
-use Rattle.edge_distance_core.specs.Fractions.{IsNoFarther, IsNoNearer, numerator_of}
+use Rattle.distance_core.specs.declared.fraction.SquaredFraction.{SquaredFraction}
+use Rattle.distance_core.specs.Fractions.{IsNoFarther, IsNoNearer, numerator_of}
 use Rattle.geometry_distance_core.specs.declared.nearest.Nearest.{Nearest}
 
 -- a set of pairs of points

@@ -6,8 +6,8 @@ ghost use Rattle.plane_core.specs.Figures.{Figure, IsGeometry};
 ghost use Rattle.distance_core.specs.Limits.{greatest_distance};
 ghost use Rattle.distance_core.specs.Distances.{AreWithin};
 ghost use Rattle.distance_core.specs.ShapePoints.{IsPointOf};
-ghost use Rattle.edge_distance_core.specs.declared.fraction.SquaredFraction.{SquaredFraction};
-ghost use Rattle.edge_distance_core.specs.Fractions.{IsSquareOf, numerator_of};
+ghost use Rattle.distance_core.specs.declared.fraction.SquaredFraction.{SquaredFraction};
+ghost use Rattle.distance_core.specs.Fractions.{IsSquareOf, numerator_of};
 ghost use Rattle.geometry_distance_core.specs.Skeletons.{IsOnSkeleton, AreApart};
 
 /// Closed geometries that share no point are as far apart as their edges and single points.

@@ -10,7 +10,7 @@ ghost use Rattle.plane_core.specs.Vertices.{paths_in};
 ghost use Rattle.distance_core.specs.Units.{units_of};
 ghost use Rattle.distance_core.specs.Distances.{AreWithin};
 ghost use Rattle.distance_core.specs.ShapePoints.{IsPointOf};
-ghost use Rattle.edge_distance_core.specs.Fractions.{IsSquareOf};
+ghost use Rattle.distance_core.specs.Fractions.{IsSquareOf};
 ghost use Rattle.geometry_distance_core.specs.NearestPairs.{IsNearest};
 ghost use Rattle.geometry_distance_core.specs.Measured.{IsSkeletonOf, of_skeletons, starts_in};
 ghost use Rattle.geometry_distance_core.specs.Measured.{ArePointEdges, is_within};
@@ -18,8 +18,7 @@ ghost use Rattle.geometry_distance_core.specs.Measured.{HasStartIn, HasStartInAr
 
 use crate::nearest::Nearest;
 use crate::search::with_outline;
-use distance_core::{Distance, squared_distance};
-use edge_distance_core::SquaredFraction;
+use distance_core::{Distance, SquaredFraction, squared_distance};
 use edge_index_core::{IndexedOutline, bounds_of};
 use geom_core::Shape;
 use plane_core::{Edge, Geometry, Kind, Outline, Part, Place, Vertex};

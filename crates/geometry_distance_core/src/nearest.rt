@@ -5,8 +5,7 @@ ghost use Rattle.edge_index_core.specs.Bounds.{IsBoxOf};
 ghost use Rattle.geometry_distance_core.specs.NearestPairs.{Pairs, IsLeastOf, IsPast, IsZero};
 ghost use Rattle.geometry_distance_core.specs.NearestPairs.{AddsPairs, of_edges};
 
-use distance_core::{Distance, squared_distance};
-use edge_distance_core::{SquaredFraction, edge_to_edge, lesser};
+use distance_core::{Distance, SquaredFraction, edge_to_edge, lesser, squared_distance};
 use edge_index_core::bounds_of;
 use geom_core::Shape;
 use plane_core::Edge;

@@ -6,8 +6,8 @@ use Rattle.row_core.specs.declared.read_fault.ReadFault.{ReadFault}
 use Rattle.run_core.specs.declared.fault.Input.{Input}
 use Rattle.run_core.specs.declared.fault.RunFault.{RunFault}
 use Rattle.run_core.specs.declared.fault.RunFault.TheVariants.{Read, TooManyToDraw}
-use Rattle.options_core.specs.declared.product.Product.{Product}
-use Rattle.options_core.specs.declared.product.Product.TheVariants.{Report, Pairs, Picture}
+use Rattle.pair_core.specs.declared.product.Product.{Product}
+use Rattle.pair_core.specs.declared.product.Product.TheVariants.{Report, Pairs, Picture}
 use Rattle.run_core.specs.declared.text.Text.{Text}
 use Rattle.join_core.specs.DrawRuns.{features_of, drawn, DrawGives}
 use Rattle.run_core.specs.Inputs.{BlamesInput}

@@ -7,8 +7,8 @@ use Rattle.draw_core.specs.Drawings.{Drawing}
 use Rattle.draw_core.specs.Pictures.{picture_of}
 use Rattle.report_core.specs.Reports.{IsPairReport, IsReport}
 use Rattle.run_core.specs.declared.fault.RunFault.{RunFault}
-use Rattle.options_core.specs.declared.product.Product.{Product}
-use Rattle.options_core.specs.declared.product.Product.TheVariants.{Report, Pairs, Picture}
+use Rattle.pair_core.specs.declared.product.Product.{Product}
+use Rattle.pair_core.specs.declared.product.Product.TheVariants.{Report, Pairs, Picture}
 use Rattle.join_core.specs.DrawRuns.{DrawGives, IsDrawFault, IsLateDrawFault, features_of}
 use Rattle.run_core.specs.EditedLayers.{JoinFiles, IsJoinFault, IsLateFault}
 use Rattle.join_core.specs.JoinRuns.{JoinGives, PairsGive}

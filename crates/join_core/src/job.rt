@@ -1,6 +1,6 @@
 //! The description of a join: its condition and its product.
 
-use options_core::{Options, Product};
+use pair_core::{Options, Product};
 use relation_core::JoinRelation;
 use wkt_core::Scale;
 

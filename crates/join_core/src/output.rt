@@ -11,7 +11,7 @@ ghost use Rattle.run_core.specs.Texts.{bytes_of_text};
 
 use draw_core::{Drawn, can_be_drawn, picture};
 use layer_core::{Geometry, Layer};
-use options_core::Product;
+use pair_core::Product;
 use refine_core::AsPair;
 use report_core::{Match, report_pairs, report_texts};
 use run_core::{RunFault, Text};

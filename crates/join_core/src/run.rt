@@ -21,7 +21,7 @@ use crate::output::{Output, can_be_made};
 use file_core::{LayerReader, Unreadable};
 use filter_core::join_layers;
 use layer_core::Layer;
-use options_core::{Options, Product};
+use pair_core::{Options, Product};
 use relation_core::JoinRelation;
 use report_core::Sink;
 use row_core::Source;

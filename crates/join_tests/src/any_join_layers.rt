@@ -5,7 +5,7 @@ use any_join_core::{AnyOutcome, join_any, join_any_pairs};
 use any_relation_core::AnyRelation;
 use layer_core::Layer;
 use layer_edit_core::LayerEditor;
-use options_core::Options;
+use pair_core::Options;
 use plane_core::Rings;
 use refine_core::Refined;
 use relation_core::{Matrix, Relation};

@@ -1,7 +1,7 @@
 //! A join with each allocation refused in turn.
 
 use crate::any_join_layers::{Texts, are_rows, joined};
-use options_core::Options;
+use pair_core::Options;
 use plane_core::Rings;
 use std::random::RandomSource;
 use std::sync::Wait;

@@ -2,7 +2,7 @@
 
 use crate::any_join_layers::{Row, Texts, are_pairs, are_rows, joined, joined_pairs, relation};
 use any_join_core::{PreparedPair, related};
-use options_core::Options;
+use pair_core::Options;
 use plane_core::Rings;
 use std::random::RandomSource;
 use std::sync::Wait;

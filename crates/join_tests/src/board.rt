@@ -4,7 +4,7 @@ ghost use Rattle.std.specs.Prelude.{◌≡◌, ◌≤◌, length, replicate, All
 ghost use Rattle.deliver_core.specs.Boards.{IsSeatOf, fresh_seat};
 
 use deliver_core::{Board, BoardSeat, draws_law};
-use options_core::MAX_WORKERS;
+use pair_core::MAX_WORKERS;
 use std::alloc::{AllocError, Global};
 use std::test::Fail;
 use std::thread;

@@ -1,9 +1,9 @@
 //! Texts of boxes, as they read for a join by distance.
 
+use any_near_core::NearFormat;
 use format_core::Format;
 use geom_core::Shape;
 use near_core::Distance;
-use near_format_core::NearFormat;
 use std::test::Fail;
 use wkt_core::Scale;
 

@@ -3,7 +3,7 @@
 use crate::teams::{are_twenty, sees};
 use deliver_core::Outcome;
 use descent_core::Plan;
-use options_core::Options;
+use pair_core::Options;
 use parallel_core::{Gate, Gated, Rows, run_workers};
 use relation_core::{JoinRelation, Relation};
 use rtree_core::RTree;

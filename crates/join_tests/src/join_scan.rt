@@ -4,7 +4,7 @@
 use crate::join_layers::{edited, seen};
 use filter_core::join;
 use layer_core::{FeatureRef, Layer};
-use options_core::Options;
+use pair_core::Options;
 use parallel_core::OpenGate;
 use relation_core::{JoinRelation, Relation};
 use std::alloc::{AllocError, Global};

@@ -3,7 +3,7 @@
 use crate::near_layers::{Row, Shapes, are_rows, joined};
 use geom_core::LIMIT;
 use near_core::Nearness;
-use options_core::Options;
+use pair_core::Options;
 use std::random::RandomSource;
 use std::sync::Wait;
 use std::test::Fail;

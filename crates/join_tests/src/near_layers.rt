@@ -4,7 +4,7 @@ use geom_core::Shape;
 use layer_core::Layer;
 use layer_edit_core::LayerEditor;
 use near_core::{Distance, GrownShape, NearOutcome, Nearness, SquaredDistance, near_layers};
-use options_core::Options;
+use pair_core::Options;
 use refine_core::Refined;
 use std::alloc::Global;
 use std::hash::RandomState;

@@ -2,7 +2,7 @@
 
 use crate::near_layers::{Corners, Row, Shapes, are_rows, joined};
 use near_core::Nearness;
-use options_core::Options;
+use pair_core::Options;
 use std::alloc::{AllocError, Global};
 use std::test::Fail;
 

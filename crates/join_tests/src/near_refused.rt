@@ -2,7 +2,7 @@
 
 use crate::near_layers::{Shapes, are_rows, joined};
 use near_core::Nearness;
-use options_core::Options;
+use pair_core::Options;
 use std::random::RandomSource;
 use std::sync::Wait;
 use std::test::Fail;

@@ -1,6 +1,6 @@
 //! The options of a join.
 
-use options_core::{MAX_BATCH, MAX_CUT, MAX_WORKERS, OptionFault, Options};
+use pair_core::{MAX_BATCH, MAX_CUT, MAX_WORKERS, OptionFault, Options};
 use std::alloc::{AllocError, Global};
 use std::string::ToString;
 use std::test::Fail;

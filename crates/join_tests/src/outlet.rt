@@ -6,7 +6,7 @@ ghost use Rattle.deliver_core.specs.OutletCalls.{IsFreshPort, IsEndedPort};
 ghost use Rattle.deliver_core.specs.Ports.{IsTapOf};
 
 use deliver_core::{Body, Message, Outlet, Port, Tap, outlet_law};
-use options_core::MAX_WORKERS;
+use pair_core::MAX_WORKERS;
 use std::alloc::{AllocError, Global};
 use std::process::Abort;
 use std::sync::Wait;

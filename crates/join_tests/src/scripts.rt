@@ -9,7 +9,7 @@ ghost use Rattle.deliver_core.specs.Ports.{IsTapOf};
 use crate::expected::{Expected, says};
 use deliver_core::{Board, BoardSeat, Body, Outlet, Port, Tap};
 use descent_core::Plan;
-use options_core::MAX_BATCH;
+use pair_core::MAX_BATCH;
 use parallel_core::{Gate, Gated, Job, OpenGate, Rows, Worked, worker};
 use relation_core::{JoinRelation, Relation};
 use rtree_core::RTree;

@@ -3,7 +3,7 @@
 use crate::gates::delivered_of;
 use deliver_core::{Mark, Outcome};
 use descent_core::Plan;
-use options_core::{MAX_BATCH, Options};
+use pair_core::{MAX_BATCH, Options};
 use parallel_core::{Gate, OpenGate};
 use rtree_core::RTree;
 use std::alloc::Global;

@@ -4,7 +4,7 @@ use crate::join_layers::{points, seen};
 use deliver_core::{Mark, Outcome};
 use filter_core::join;
 use layer_core::Layer;
-use options_core::Options;
+use pair_core::Options;
 use parallel_core::{Gate, JoinFault, OpenGate};
 use relation_core::{JoinRelation, Relation};
 use std::random::RandomSource;

@@ -3,7 +3,7 @@
 
 ghost use Rattle.std.specs.Prelude.{All, IfOk, IfErr};
 ghost use Rattle.relation_core.specs.declared.relation.Relation.TheVariants as relations;
-ghost use Rattle.options_core.specs.Options.{batch_of, cut_of};
+ghost use Rattle.pair_core.specs.Options.{batch_of, cut_of};
 ghost use Rattle.parallel_core.specs.Faults.{IsWant};
 ghost use Rattle.filter_core.specs.Joins.{StandIn, IsJoinList, HasMarks};
 ghost use Rattle.refine_core.specs.Refinements.{pairs_of};
@@ -16,7 +16,7 @@ use crate::outcome::NearOutcome;
 use distance_core::Nearness;
 use filter_core::meeting_layers;
 use layer_core::Layer;
-use options_core::Options;
+use pair_core::Options;
 use parallel_core::JoinFault;
 use std::sync::Wait;
 use std::thread::Threads;

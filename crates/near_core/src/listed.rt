@@ -5,7 +5,7 @@ ghost use Rattle.filter_core.specs.Joins.{IsJoinList};
 ghost use Rattle.refine_core.specs.Refinements.{IsPairIn, pairs_of};
 ghost use Rattle.near_core.specs.Lists.{HasAnswer};
 
-use options_core::MAX_WORKERS;
+use pair_core::MAX_WORKERS;
 use refine_core::{Condition, Refined, refine_pairs};
 use std::alloc::{AllocError, Global};
 use std::thread::Threads;

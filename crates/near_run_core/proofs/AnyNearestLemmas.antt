@@ -15,7 +15,7 @@ use Rattle.run_core.specs.EditedLayers.{JoinFiles, LayersGive}
 use Rattle.run_core.specs.ReportRuns.{reported}
 use Rattle.run_core.specs.Texts.{bytes_of_text}
 use Rattle.distance_core.specs.declared.query.Query.{Query}
-use Rattle.edge_distance_core.specs.declared.fraction.SquaredFraction.{SquaredFraction}
+use Rattle.distance_core.specs.declared.fraction.SquaredFraction.{SquaredFraction}
 use Rattle.any_geometry_core.specs.declared.geometry.AnyGeometry.{AnyGeometry}
 use Rattle.any_geometry_core.specs.AnyGeometries.{figure_of}
 use Rattle.any_nearest_core.specs.declared.neighbour.AnyNeighbour.{AnyNeighbour}

@@ -16,9 +16,9 @@ use Rattle.run_core.specs.declared.text.Text.{Text}
 use Rattle.run_core.specs.EditedLayers.{JoinFiles, LayersGive}
 use Rattle.run_core.specs.ReportRuns.{reported, ArePairs}
 use Rattle.run_core.specs.Texts.{bytes_of_text}
-use Rattle.edge_distance_core.specs.declared.fraction.SquaredFraction.{SquaredFraction}
-use Rattle.edge_distance_core.specs.Fractions.{numerator_of}
-use Rattle.edge_distance_core.specs.FractionRoots.{IsRoundedFractionRoot}
+use Rattle.distance_core.specs.declared.fraction.SquaredFraction.{SquaredFraction}
+use Rattle.distance_core.specs.Fractions.{numerator_of}
+use Rattle.distance_core.specs.FractionRoots.{IsRoundedFractionRoot}
 use Rattle.any_near_core.specs.declared.grown.GrownGeometry.{GrownGeometry}
 use Rattle.any_near_core.specs.Near.{AreWanted}
 use Rattle.near_run_core.specs.declared.job.NearJob.{NearJob}

@@ -4,9 +4,9 @@ use Rattle.number_core.specs.declared.scale.Scale.{Scale}
 use Rattle.number_core.specs.CanonicalNumbers.{number}
 use Rattle.plane_core.specs.Figures.{Figure}
 use Rattle.distance_core.specs.ShapePoints.{IsPointOf}
-use Rattle.edge_distance_core.specs.declared.fraction.SquaredFraction.{SquaredFraction}
-use Rattle.edge_distance_core.specs.Fractions.{IsSquareOf, numerator_of}
-use Rattle.edge_distance_core.specs.FractionRoots.{IsRoundedFractionRoot}
+use Rattle.distance_core.specs.declared.fraction.SquaredFraction.{SquaredFraction}
+use Rattle.distance_core.specs.Fractions.{IsSquareOf, numerator_of}
+use Rattle.distance_core.specs.FractionRoots.{IsRoundedFractionRoot}
 use Rattle.layer_core.specs.Layers.{Contents}
 use Rattle.filter_core.specs.Joins.{StandIn}
 use Rattle.refine_core.specs.declared.refined.Refined.{Refined}

@@ -5,7 +5,7 @@ use Rattle.refine_core.specs.declared.refined.Refined.{Refined}
 use Rattle.refine_core.specs.Refinements.{pairs_of}
 use Rattle.report_core.specs.Reports.{IsReportBy}
 use Rattle.distance_core.specs.declared.query.Query.{Query}
-use Rattle.edge_distance_core.specs.declared.fraction.SquaredFraction.{SquaredFraction}
+use Rattle.distance_core.specs.declared.fraction.SquaredFraction.{SquaredFraction}
 use Rattle.any_geometry_core.specs.declared.geometry.AnyGeometry.{AnyGeometry}
 use Rattle.any_geometry_core.specs.AnyGeometries.{figure_of}
 use Rattle.any_nearest_core.specs.Matches.{AreMatches}

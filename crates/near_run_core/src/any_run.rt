@@ -2,7 +2,7 @@
 
 ghost use Rattle.std.specs.Prelude.{◌≡◌, Ok, Err, false, IfOk, IfErr, OnOk};
 ghost use Rattle.layer_core.specs.Edits.{both};
-ghost use Rattle.near_format_core.specs.AnyNearFormats.{ReadsGrownAny};
+ghost use Rattle.any_near_core.specs.AnyNearFormats.{ReadsGrownAny};
 ghost use Rattle.run_core.specs.Inputs.{BlamesInput};
 ghost use Rattle.run_core.specs.EditedLayers.{files_by, files_of, IsJoinFault, IsLateFault};
 ghost use Rattle.run_core.specs.EditedLayers.{AreRowsSkipped, skipped_lists};
@@ -15,11 +15,10 @@ ghost use Rattle.near_run_core.specs.AnyNearRuns.{IsAnyNearReport, AnyNearGives,
 use crate::any_distance_field::AnyDistanceField;
 use crate::grown_improper::GrownImproper;
 use crate::job::{AnyNearJob, NearJob};
-use any_near_core::{GrownGeometry, near_any_layers};
+use any_near_core::{AnyNearFormat, GrownGeometry, near_any_layers};
 use file_core::{LayerReader, Unreadable};
 use format_core::AnyFormat;
 use layer_core::Layer;
-use near_format_core::AnyNearFormat;
 use report_core::{ReportForm, Sink, report_by};
 use row_core::Source;
 use run_core::{

@@ -2,7 +2,7 @@
 
 use near_core::{Distance, Nearness};
 use nearest_core::Query;
-use options_core::Options;
+use pair_core::Options;
 use plane_core::Rings;
 use wkt_core::Scale;
 

@@ -2,7 +2,7 @@
 
 ghost use Rattle.std.specs.Prelude.{◌≡◌, Ok, Err, false, IfOk, IfErr};
 ghost use Rattle.layer_core.specs.Edits.{both};
-ghost use Rattle.near_format_core.specs.NearFormats.{ReadsGrown};
+ghost use Rattle.any_near_core.specs.NearFormats.{ReadsGrown};
 ghost use Rattle.run_core.specs.Inputs.{BlamesInput};
 ghost use Rattle.run_core.specs.EditedLayers.{files_by, files_of, IsJoinFault, IsLateFault};
 ghost use Rattle.run_core.specs.EditedLayers.{AreRowsSkipped, skipped_lists};
@@ -13,11 +13,11 @@ ghost use Rattle.near_run_core.specs.NearRuns.{IsNearReport, NearGives};
 
 use crate::distance_field::DistanceField;
 use crate::job::NearJob;
+use any_near_core::NearFormat;
 use file_core::{LayerReader, Unreadable};
 use filter_core::meeting_layers;
 use layer_core::Layer;
 use near_core::{GrownShape, NearFeatures};
-use near_format_core::NearFormat;
 use report_core::{RefiningForm, Sink, report_refining};
 use row_core::Source;
 use run_core::{

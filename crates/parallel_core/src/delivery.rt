@@ -2,7 +2,7 @@
 
 ghost use Rattle.std.specs.Prelude.{◌≡◌, ◌<◌, true, false, IfErr, IfOk};
 ghost use Rattle.relation_core.specs.JoinRelations.{relation_of};
-ghost use Rattle.options_core.specs.Options.{batch_of};
+ghost use Rattle.pair_core.specs.Options.{batch_of};
 ghost use Rattle.parallel_core.specs.Deliveries.{IsDelivered};
 ghost use Rattle.parallel_core.specs.Faults.{IsWant};
 
@@ -13,7 +13,7 @@ use crate::receiver::Receiver;
 use crate::rows::Rows;
 use crate::team::{Team, run};
 use deliver_core::{Board, Outcome, Outlet, owners_law};
-use options_core::Options;
+use pair_core::Options;
 use relation_core::JoinRelation;
 use std::sync::Wait;
 use std::thread::Threads;

@@ -15,7 +15,7 @@ use crate::job::Job;
 use crate::rows::Rows;
 use crate::script::send_script;
 use deliver_core::{BoardSeat, Port};
-use options_core::MAX_BATCH;
+use pair_core::MAX_BATCH;
 use std::alloc::AllocError;
 use std::sync::Wait;
 

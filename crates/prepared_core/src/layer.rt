@@ -6,7 +6,7 @@ ghost use Rattle.prepared_core.specs.Prepared.{ArePrepared};
 
 use crate::preparation::{Preparation, Prepare};
 use layer_core::{Geometry, Layer};
-use often_core::{Side, met_often};
+use pair_core::{Side, met_often};
 use std::alloc::{AllocError, Global};
 use std::marker::{Model, PhantomData};
 

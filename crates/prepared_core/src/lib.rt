@@ -6,5 +6,5 @@ mod layer;
 mod preparation;
 
 pub use layer::PreparedLayer;
-pub use often_core::Side;
+pub use pair_core::Side;
 pub use preparation::{Preparation, Prepare};

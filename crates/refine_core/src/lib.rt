@@ -12,7 +12,7 @@ mod worker;
 
 pub use condition::Condition;
 pub use laws::refinement_law;
-pub use options_core::MAX_WORKERS;
+pub use pair_core::MAX_WORKERS;
 pub use refine::refine_pairs;
 pub use refined::{AsPair, Refined};
 pub use worker::refine_each;

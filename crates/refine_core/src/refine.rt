@@ -14,7 +14,7 @@ use crate::laws::refinement_law;
 use crate::refined::Refined;
 use crate::worker::{Job, Share, refine_each, work};
 use deliver_core::{Board, BoardSeat};
-use options_core::MAX_WORKERS;
+use pair_core::MAX_WORKERS;
 use std::alloc::{AllocError, Global};
 use std::thread;
 use std::thread::Threads;

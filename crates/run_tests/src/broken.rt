@@ -3,7 +3,7 @@
 use crate::device::{has_front, make_device};
 use crate::example::{EDITED, REPORT};
 use crate::join_running::{Files, at_once, edited_example, ends, example, make_job, run};
-use options_core::{Options, Product};
+use pair_core::{Options, Product};
 use relation_core::Relation;
 use row_core::ReadFault;
 use run_core::{Input, RunFault};

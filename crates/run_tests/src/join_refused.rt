@@ -3,7 +3,7 @@
 use crate::example::EDITED;
 use crate::join_running::{edited_example, join};
 use layer_core::LayerFault;
-use options_core::Options;
+use pair_core::Options;
 use parallel_core::JoinFault;
 use relation_core::Relation;
 use row_core::ReadFault;

@@ -5,7 +5,7 @@ ghost use Rattle.report_core.specs.ToWrite.{failed_of};
 
 use crate::example::{EDITS, LEFT, RIGHT};
 use join_core::{BoxCondition, JoinJob, run_join};
-use options_core::{Options, Product};
+use pair_core::{Options, Product};
 use relation_core::{JoinRelation, Relation};
 use report_core::ToWrite;
 use row_core::FromRead;

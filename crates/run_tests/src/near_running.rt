@@ -8,7 +8,7 @@ use near_run_core::{
     run_nearest,
 };
 use nearest_core::{Distance, Query};
-use options_core::Options;
+use pair_core::Options;
 use plane_core::Rings;
 use report_core::ToWrite;
 use row_core::{FromRead, Source};

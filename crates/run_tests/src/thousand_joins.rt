@@ -2,7 +2,7 @@
 //! joins of the same two layers write the same bytes.
 
 use crate::join_running::{Files, at_once, join};
-use options_core::Options;
+use pair_core::Options;
 use relation_core::Relation;
 use std::random::RandomSource;
 use std::sync::Wait;

@@ -1,7 +1,7 @@
 //! The line of the fault of a run.
 
 use crate::join_running::{Files, at_once, join};
-use options_core::Options;
+use pair_core::Options;
 use relation_core::Relation;
 use report_core::ToWrite;
 use run_core::fault_line;

@@ -1,8 +1,7 @@
 //! How far edges are apart, worked out by hand.
 
-use distance_core::Distance;
-use edge_distance_core::{
-    SquaredFraction, are_edges_within, edge_to_edge, vertex_to_edge, vertex_to_vertex,
+use distance_core::{
+    Distance, SquaredFraction, are_edges_within, edge_to_edge, vertex_to_edge, vertex_to_vertex,
 };
 use geom_core::LIMIT;
 use plane_core::{Edge, Vertex};

@@ -3,10 +3,10 @@ use Rattle.std.proofs.Common.{◌≡◌, ◌≤◌, ℕ, Bool, true, false, Opti
 use Rattle.std.specs.Prelude.{codes, ◌⊎◌}
 use Rattle.std.specs.Bool.{MatchBool}
 use Rattle.clap.specs.Words.{Row, Text, first_of}
-use Rattle.options_core.specs.Options.{workers_of, batch_of, cut_of, AreWorkers, IsBatch, IsCut}
-use Rattle.options_core.specs.declared.options.Options.{Options}
-use Rattle.options_core.specs.declared.options.OptionFault.{OptionFault}
-use Rattle.options_core.specs.declared.options.OptionFault.TheVariants as range
+use Rattle.pair_core.specs.Options.{workers_of, batch_of, cut_of, AreWorkers, IsBatch, IsCut}
+use Rattle.pair_core.specs.declared.options.Options.{Options}
+use Rattle.pair_core.specs.declared.options.OptionFault.{OptionFault}
+use Rattle.pair_core.specs.declared.options.OptionFault.TheVariants as range
 use Rattle.relation_core.specs.Relations.{Spells}
 use Rattle.relation_core.specs.declared.relation.Relation.{Relation}
 use Rattle.number_core.specs.ScaleLimits.{most_digits}

@@ -31,12 +31,12 @@ use Rattle.distance_core.specs.declared.distance.Distance.{Distance}
 use Rattle.distance_core.specs.declared.query.Query.{Query}
 use Rattle.distance_core.specs.declared.nearness.Nearness.{Nearness}
 use Rattle.distance_core.specs.declared.nearness.Nearness.TheVariants.{Apart, Within}
-use Rattle.options_core.specs.Limits.{most_workers}
-use Rattle.options_core.specs.Options.{workers_of, batch_of, cut_of, AreWorkers, IsBatch, IsCut}
-use Rattle.options_core.specs.declared.options.Options.{Options}
-use Rattle.options_core.specs.declared.options.OptionFault.TheVariants as range
-use Rattle.options_core.specs.declared.product.Product.{Product}
-use Rattle.options_core.specs.declared.product.Product.TheVariants.{Report, Pairs, Picture}
+use Rattle.pair_core.specs.Limits.{most_workers}
+use Rattle.pair_core.specs.Options.{workers_of, batch_of, cut_of, AreWorkers, IsBatch, IsCut}
+use Rattle.pair_core.specs.declared.options.Options.{Options}
+use Rattle.pair_core.specs.declared.options.OptionFault.TheVariants as range
+use Rattle.pair_core.specs.declared.product.Product.{Product}
+use Rattle.pair_core.specs.declared.product.Product.TheVariants.{Report, Pairs, Picture}
 use Rattle.plane_core.specs.declared.rings.Rings.{Rings}
 use Rattle.plane_core.specs.declared.rings.Rings.TheVariants.{Proper, EvenOdd}
 use Rattle.usage_core.specs.Usage.{usage_of}

@@ -10,7 +10,7 @@ use crate::reading::read_command;
 use clap::error::ErrorKind;
 use distance_core::{Distance, Nearness, Query};
 use number_core::Scale;
-use options_core::{OptionFault, Options, Product};
+use pair_core::{OptionFault, Options, Product};
 use relation_core::{AllowsDisjoint, MaskFault};
 use std::alloc::{AllocError, Global};
 use thiserror::Error;

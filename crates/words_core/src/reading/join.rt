@@ -13,7 +13,7 @@ use super::relation::read_relation;
 use crate::condition::Condition;
 use crate::words::{Command, JoinRequest, WordFault};
 use clap::ArgMatches;
-use options_core::Product;
+use pair_core::Product;
 use relation_core::{AllowsDisjoint, Relation};
 use std::alloc::Global;
 

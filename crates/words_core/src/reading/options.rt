@@ -7,7 +7,7 @@ ghost use Rattle.words_core.specs.Readings.{is_auto, missing_text, workers_at};
 use super::arguments::{number, optional};
 use crate::words::{WordFault, Workers};
 use clap::ArgMatches;
-use options_core::{MAX_WORKERS, Options};
+use pair_core::{MAX_WORKERS, Options};
 use std::alloc::Global;
 
 /// The value of `--workers` that asks for a worker for each processor.

@@ -1,7 +1,7 @@
 use Rattle.std.proofs.Common.{Ok, Err, IfOk, IfErr, OnOk, subst}
 use Rattle.file_core.specs.declared.skipped.Unreadable.{Unreadable}
-use Rattle.near_format_core.specs.NearFormats.{ReadsGrown}
-use Rattle.near_format_core.specs.AnyNearFormats.{ReadsGrownAny}
+use Rattle.any_near_core.specs.NearFormats.{ReadsGrown}
+use Rattle.any_near_core.specs.AnyNearFormats.{ReadsGrownAny}
 use Rattle.run_core.specs.Marks.{AreRowsMarked, marked_lists}
 use Rattle.run_core.specs.Inputs.{BlamesInput}
 use Rattle.run_core.specs.EditedLayers.{AreRowsSkipped, files_by, IsJoinFault, skipped_lists}

@@ -1,4 +1,4 @@
-use Rattle.edge_distance_core.specs.Fractions.{numerator_of}
+use Rattle.distance_core.specs.Fractions.{numerator_of}
 use Rattle.geometry_distance_core.proofs.SkeletonLemmas.{apart_least}
 use Rattle.geometry_distance_core.proofs.laws.skeleton_law.Goals as goal
 

@@ -1,6 +1,6 @@
 use Rattle.distance_core.specs.ShapePoints.{IsPointOf}
-use Rattle.edge_distance_core.specs.Fractions.{numerator_of}
-use Rattle.edge_distance_core.proofs.MeetingLemmas.{within_by_fraction}
+use Rattle.distance_core.specs.Fractions.{numerator_of}
+use Rattle.distance_core.proofs.MeetingLemmas.{within_by_fraction}
 use Rattle.geometry_distance_core.proofs.laws.within_law.Goals as goal
 
 pub returns : goal.returns

@@ -1,5 +1,5 @@
 use Rattle.std.proofs.Common.{List, ℕ, Ok, refl}
-use Rattle.near_format_core.specs.AnyNearFormats.{ReadsGrownAny}
+use Rattle.any_near_core.specs.AnyNearFormats.{ReadsGrownAny}
 use Rattle.run_core.specs.EditedLayers.{files_by, IsLateFault}
 use Rattle.run_core.proofs.SourceLemmas.{io_handed_on, io_before}
 use Rattle.run_core.proofs.ReportRunLemmas.{made_err, made_io, made_ok, no_report, last_fault}

@@ -1,4 +1,4 @@
-use Rattle.options_core.specs.declared.product.Product.TheVariants.{Report, Picture}
+use Rattle.pair_core.specs.declared.product.Product.TheVariants.{Report, Picture}
 use Rattle.words_core.specs.Readings.{of_relate, of_join, of_near, of_nearest, of_window, of_stats, of_bounds}
 use Rattle.words_core.proofs.ReadingLemmas.{fault_weaker, named, unnamed}
 use Rattle.words_core.proofs.reading.read_named.Goals as goal

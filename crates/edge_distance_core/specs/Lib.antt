@@ -1,3 +1,0 @@
-pub mod Fractions
-pub mod FractionRoots
-pub mod Frames

@@ -1,2 +1,0 @@
-pub mod AnyNearFormats
-pub mod NearFormats

@@ -1,6 +1,0 @@
-//! Which features occur in several pairs of a join.
-#![tactic(auto)]
-
-mod often;
-
-pub use often::{Side, met_often};
