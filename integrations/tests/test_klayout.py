@@ -87,7 +87,7 @@ def klayout_run(words: List[str], variables: Dict[str, str], **environment: str
     given = [word for name, value in variables.items() for word in ("-rd", f"{name}={value}")]
     return subprocess.run(["klayout", *words, *given], capture_output=True, text=True, check=False,
                           env={**os.environ, **ENVIRONMENT, **environment},
-                          stdin=subprocess.DEVNULL, timeout=150)
+                          stdin=subprocess.DEVNULL, timeout=600)
 
 
 @pytest.fixture(scope="session")

@@ -538,6 +538,16 @@ def test_rows_out_of_range_of_the_decimals_are_left_out(server: Dict[str, str]) 
     assert "rows listed in wide_5_skipped: 0\n" in done(server, *words, "wide_5", "--decimals", "5")
 
 
+def test_coordinates_are_rounded_to_whole_numbers(server: Dict[str, str]) -> None:
+    psql(server, "create table halfway (id int primary key, geom geometry)",
+         "insert into halfway values (1, 'POINT (0.5 -0.5)'), (2, 'POINT (1.25 -1.25)'),"
+         " (3, 'POINT (1 -1)')")
+    told = done(server, "halfway", "halfway", "--relation", "equals", "--decimals", "0",
+                "--into", "whole")
+    assert told.count("halfway: rows with coordinates rounded to 0 decimals: 2") == 2
+    assert psql(server, "select count(*) from whole") == [["9"]]
+
+
 def test_rounding_is_half_a_unit_away_from_zero(server: Dict[str, str]) -> None:
     """Of points and of lines alike; a segment may become a point, any other line may not."""
     psql(server, "create table halves (id text primary key, geom geometry)",
@@ -702,17 +712,24 @@ def test_a_table_that_another_run_makes(server: Dict[str, str]) -> None:
 
 
 def test_both_tables_are_read_as_they_are_at_one_time(server: Dict[str, str]) -> None:
-    """A row that comes while the left table is read isn't in the right one either."""
+    """A row that comes while the left table is read isn't in the right one: the left one waits for
+    a lock until the row is there."""
     psql(server, "create table growing (id int primary key, geom geometry)",
          "insert into growing values (1, 'POINT (1 1)')",
-         "create view slowly as select id, geom from growing, pg_sleep(2)")
-    words = [str(COMMAND), "slowly", "growing", "--left-id", "id", "--relation", "equals",
+         "create view waiting as select id, geom from growing, pg_advisory_xact_lock(7)")
+    words = [str(COMMAND), "waiting", "growing", "--left-id", "id", "--relation", "equals",
              "--into", "grown"]
-    with subprocess.Popen(words, env=server, stdout=subprocess.PIPE, text=True) as process:
-        wait_until(lambda: psql(server, "select count(*) from pg_stat_activity"
-                                " where wait_event = 'PgSleep'") == [["1"]])
-        psql(server, "insert into growing values (2, 'POINT (1 1)')")
-        told, _ = process.communicate(timeout=20)
+    with subprocess.Popen(["psql", "-qtX"], env=server, stdin=subprocess.PIPE,
+                          stdout=subprocess.PIPE, text=True) as other:
+        assert other.stdin is not None and other.stdout is not None
+        other.stdin.write("begin; select pg_advisory_xact_lock(7);\n\\echo held\n")
+        other.stdin.flush()
+        assert "held\n" in iter(other.stdout.readline, "")
+        with subprocess.Popen(words, env=server, stdout=subprocess.PIPE, text=True) as process:
+            wait_until(lambda: psql(server, "select count(*) from pg_stat_activity"
+                                    " where wait_event_type = 'Lock'") == [["1"]])
+            other.communicate("insert into growing values (2, 'POINT (1 1)'); commit;\n")
+            told, _ = process.communicate(timeout=60)
     assert told == "pairs in grown: 1\n"
 
 
