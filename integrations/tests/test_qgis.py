@@ -784,7 +784,7 @@ def test_what_is_out_of_range(runs: Any, tmp_path: Path) -> None:
     """What the decimals of the run don't reach is left out like any other geometry; an envelope
     stays with its feature."""
     squares = {"far": square(2000000, 1), "near": square(1, 1), "beyond": square(2e13, 1),
-               "further": square(3, 500000000), "below": square(1, -3000000)}
+               "further": square(3, 500000000)}
     far = layer(tmp_path / "far.csv", squares)
     mixed = layer(tmp_path / "mixed.csv", {**squares, "curve": OTHERS["curve"],
                                            "box": OTHERS["box"]})
@@ -811,17 +811,28 @@ def test_what_is_out_of_range(runs: Any, tmp_path: Path) -> None:
         "most 5 fit")
     reasons = {"beyond": "a coordinate out of range",
                "far": "a coordinate out of range with 6 decimals",
-               "further": "a coordinate out of range with 6 decimals",
-               "below": "a coordinate out of range with 6 decimals"}
+               "further": "a coordinate out of range with 6 decimals"}
     for answer in (left_out, by_given, by_distance, envelopes):
         assert {(row["id"], row["id_2"]) for row in answer["rows"]["OUTPUT"]} >= {("near", "z")}
         assert {row["id"]: row["reason"] for row in answer["rows"]["INPUT_LEFT_OUT"]} == reasons
     assert {row["id"]: row["exact"] for row in envelopes["rows"]["OUTPUT"]} == {
         "near": True, "curve": False, "box": True}
-    assert "features left out: 4, each of which may be the partner" in partner["error"]
-    assert (counted["results"]["FEATURES"], counted["results"]["LEFT_OUT_COUNT"]) == (3, 2)
+    assert "features left out: 3, each of which may be the partner" in partner["error"]
+    assert (counted["results"]["FEATURES"], counted["results"]["LEFT_OUT_COUNT"]) == (2, 2)
     assert [row["id"] for row in window["rows"]["OUTPUT"]] == ["near"]
     assert [row["id"] for row in window["rows"]["LEFT_OUT"]] == ["beyond", "further"]
+
+
+def test_coordinates_below_zero(runs: Any, tmp_path: Path) -> None:
+    """Their size counts without the sign, also where no other is out of range."""
+    below = layer(tmp_path / "below.csv", {"below": square(1, -3000000), "near": square(1, 1)})
+    fine = layer(tmp_path / "fine.csv", {"z": "POLYGON ((0 0, 2.000001 0, 0 2.000001, 0 0))"})
+    stopped, left_out = runs([ours(below, fine, "overlaps"), ours(
+        below, fine, "overlaps", OTHERS=LEAVE_OUT, INPUT_LEFT_OUT="memory:")])
+    assert stopped["error"] == ("Base layer below, feature 1: coordinate -3000000.0 is out of range"
+                                " with 6 decimals: at most 5 fit")
+    assert pairs(left_out) == [("near", "z")]
+    assert [row["id"] for row in left_out["rows"]["INPUT_LEFT_OUT"]] == ["below"]
 
 
 def test_points_that_are_not_finite(runs: Any, tmp_path: Path) -> None:
