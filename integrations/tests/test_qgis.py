@@ -885,6 +885,20 @@ def test_window(runs: Any, window: str) -> None:
         assert one["results"]["COUNT"] == len(one["rows"]["OUTPUT"])
 
 
+@pytest.mark.parametrize("window", ["0.5,2.5,0.5,2.5", "-2.5,-0.5,-1.5,0.25"])
+def test_each_side_of_a_window_between_two_units(runs: Any, tmp_path: Path, window: str) -> None:
+    """Beside QGIS's own extraction, with points on both sides of each side."""
+    grid = layer(tmp_path / "grid.csv", {f"{x}/{y}": f"POINT ({x} {y})"
+                                         for x in range(-3, 4) for y in range(-3, 4)})
+    own, theirs = runs([
+        {"algorithm": "rjoin:featuresinwindow", "parameters": {
+            "INPUT": grid, "WINDOW": window, "OUTPUT": "memory:"}},
+        {"algorithm": "native:extractbyextent", "parameters": {
+            "INPUT": grid, "EXTENT": window, "CLIP": False, "OUTPUT": "memory:"}}])
+    assert own["error"] is None and own["rows"]["OUTPUT"] == theirs["rows"]["OUTPUT"]
+    assert own["results"]["COUNT"] == 4
+
+
 def test_window_over_any_geometry(runs: Any) -> None:
     """Beside QGIS's own extraction; the last window has more decimals than rjoin reads."""
     windows = ("0,400,-100,300", "157.25,158,39,39.5", "300.0000000001,700,300,500")
