@@ -10,7 +10,7 @@ import csv
 import warnings
 import xml.etree.ElementTree as xml
 from pathlib import Path
-from typing import Any, Callable, List, Tuple
+from typing import Any, Callable, Dict, List, Tuple
 
 import numpy as np
 import pandas
@@ -252,6 +252,22 @@ def test_long_geometries_are_windows_and_letters_are_refused() -> None:
         rjoin.window(points, flat)
     with pytest.raises(rjoin.InputError, match="^layer: row 1 .*a line without length"):
         rjoin.window(["LINESTRING (1 1, 1 1)"], line)
+
+
+def test_faults_have_the_row_behind_those_that_are_left_out() -> None:
+    """Those that the program finds, and numbers, of boxes and of any geometry."""
+    faults: Tuple[Tuple[str, Dict[str, Any], str], ...] = (
+        (BOW_TIE, {"rings": "proper"}, "rings cross"),
+        ("POINT (0.12345678 1)", {}, "has 8 decimals"),
+        ("POINT (0.25 1)", {"scale": 1}, "more than 1 decimals"),
+        ("POINT (1e13 1)", {}, "is above"))
+    for before in ((COLLECTION, "POINT (1 1)"), (COLLECTION, "LINESTRING (0 0, 3 3)")):
+        for text, rules, told in faults:
+            layer = geopandas.GeoSeries([wkt.loads(one) for one in (*before, text)],
+                                        index=list("abc"))
+            for given in (layer, layer.to_wkt()):
+                with pytest.raises(rjoin.InputError, match=f"row 3 .feature 'c'.: .*{told}"):
+                    rjoin.stats(given, other="skip", **rules)
 
 
 def test_what_two_parts_both_cover_is_outside() -> None:
