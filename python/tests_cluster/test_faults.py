@@ -162,6 +162,31 @@ def test_a_program_without_an_option(
         assert told(capfd.readouterr().err) == line
 
 
+# Writes the header of a report, which alone is one without pairs, and ends in some way.
+CUT_SHORT = """#!/bin/sh
+case "$*" in
+    join*--workers=1) echo left,right,matrix; echo no more >&2; {end} ;;
+esac
+exec {program} "$@"
+"""
+
+
+@pytest.mark.parametrize("end, status", [("exit 1", 1), ("exit 3", 3), ("kill -9 $$", -9)])
+def test_a_run_that_ends_amid_its_report(
+    tools_here: Tools, end: str, status: int, capfd: pytest.CaptureFixture[str]
+) -> None:
+    from rjoin_cluster.command import main
+
+    program = tools_here.folder / "rjoin"
+    program.write_text(CUT_SHORT.format(end=end, program=tools_here.program))
+    program.chmod(0o755)
+    layer = write_layer(tools_here.folder / "layer.csv", GOOD)
+    assert main(tools_here.command(layer, layer, "within", "--program", str(program))) == 1
+    cause = f"RunFailed: rjoin join: status {status}: no more"
+    assert told(capfd.readouterr().err) == f"rjoin-cluster: joining tile 0, run 0: {cause}\n"
+    assert not tools_here.report().exists()
+
+
 @pytest.mark.parametrize("most", [3599, 3600])
 def test_more_pairs_of_features_than_can_be_numbered(
     tools: Tools, most: int, capfd: pytest.CaptureFixture[str], monkeypatch: pytest.MonkeyPatch
