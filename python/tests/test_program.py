@@ -10,7 +10,7 @@ import sys
 import time
 import warnings
 from pathlib import Path
-from typing import Any, Callable, Dict, List
+from typing import Any, Callable, Dict, Iterator, List
 
 import pytest
 from town import TOP, TOWN
@@ -322,6 +322,30 @@ def test_a_temporary_folder_that_cannot_be_made_is_told(monkeypatch: Any, tmp_pa
     monkeypatch.setattr("tempfile.tempdir", str(tmp_path / "none"))
     with pytest.raises(rjoin.RjoinError, match="^temporary files: No such file"):
         rjoin.pairs(["POINT (0 0)"], ["POINT (0 0)"])
+
+
+@pytest.fixture()
+def small_disk(monkeypatch: Any, tmp_path: Path) -> Iterator[Path]:
+    """A disk of 1 MB for temporary files, for which one has to be root."""
+    disk = tmp_path / "disk"
+    disk.mkdir()
+    words = ["mount", "-t", "tmpfs", "-o", "size=1m", "tmpfs", str(disk)]
+    if subprocess.run(words, capture_output=True, check=False).returncode != 0:
+        pytest.skip("no disk can be mounted here")
+    monkeypatch.setattr("tempfile.tempdir", str(disk))
+    try:
+        yield disk
+    finally:
+        subprocess.run(["umount", "-l", str(disk)], check=True)
+
+
+def test_a_disk_that_is_full_is_told(small_disk: Path) -> None:
+    """Where the package writes a layer, and where the program writes a report."""
+    pytest.importorskip("pandas")
+    for layer in (["POINT (1 1)"] * 60_000, ["POINT (1 1)"] * 400):
+        with pytest.raises(rjoin.RjoinError, match="^temporary files: No space left on device$"):
+            rjoin.pairs(layer, layer, "equals")
+        assert not os.listdir(small_disk)
 
 
 def test_nothing_is_left_in_the_temporary_folder(monkeypatch: Any, tmp_path: Path) -> None:

@@ -51,6 +51,7 @@ DISTANCE = {"distance": "int64"}
 PAIRS = "--pairs"
 # A word of a command line has fewer bytes on Linux (MAX_ARG_STRLEN).
 MOST_WORD = 131_072
+TRIAL_BYTES = 1 << 20
 
 Single = Union[GeometrySource, TextSource]
 Numbers = Union[Source, Length]
@@ -471,6 +472,10 @@ def reported(job: Job, command: Sequence[str], words: Sequence[str], last: Dict[
         except program.InputFault as fault:
             side = sides.get(fault.side, fault.side)
             raise program.InputFault(side, fault.row, fault.reason) from fault
+        except RjoinError as fault:
+            if str(fault) == program.WRITE_FAILED:
+                lengthen(report)
+            raise
         job.note_rings(answer.notes, sides)
         left, right = job.sources[order]
         return reports.read(report, (kind_of(left), kind_of(right)), last, wants_last,
@@ -480,6 +485,12 @@ def reported(job: Job, command: Sequence[str], words: Sequence[str], last: Dict[
         found.columns = ["right", "left", *found.columns[2:]]
         found = found[["left", "right", *found.columns[2:]]]
     return found
+
+
+def lengthen(path: Path) -> None:
+    """Adds to a file that the program could not write, so that the system says why."""
+    with open(path, "ab") as file:
+        file.write(bytes(TRIAL_BYTES))
 
 
 def kind_of(source: Source) -> str:

@@ -38,6 +38,7 @@ FAULT = re.compile(
     r"rjoin: (?P<side>left|right|layer|window|first|second): (?:row (?P<row>\d+): )?(?P<reason>.*)")
 UNKNOWN_OPTION = re.compile(r"error: unexpected argument '(?P<option>--[a-z-]+)' found")
 NO_MEMORY = "no memory"
+WRITE_FAILED = "write failed"
 WRONG_WORDS = 2
 
 # The programs of which it is told whether they are older than their sources.
