@@ -32,7 +32,7 @@ POINTS_A_DISTRICT = 100
 # spiral to a feature.
 FEATURES_A_STRAND, FEATURES_A_SPIKE, FEATURES_A_SPOT, VERTICES_A_FEATURE = 10, 5, 200, 6
 STRAND_VERTICES = 10
-VERTICES_A_TURN, MOST_TURNS = 100, 100
+LEAST_VERTICES = 100
 
 
 def side_of(size: int) -> int:
@@ -190,11 +190,11 @@ def right_strands(size: int, random: Random) -> Iterator[str]:
 
 
 def spiral(size: int, turned: float) -> Iterator[str]:
-    """A polyline of many turns from (0, 0) outwards."""
-    count = max(2 * VERTICES_A_TURN, VERTICES_A_FEATURE * size)
-    turn = math.tau / max(VERTICES_A_TURN, count // MOST_TURNS)
-    ways = ((STEP * at, turned + at * turn) for at in range(count))
-    yield f"LINESTRING ({listed([on_circle((0, 0), radius, way) for radius, way in ways])})"
+    """A polyline from (0, 0) outwards, of as many turns as a turn has vertices. This number is even, so that the
+    vertices of two spirals lie on the same rays, and no edges cross."""
+    count = max(LEAST_VERTICES, VERTICES_A_FEATURE * size)
+    turn = math.tau / (isqrt(count) // 2 * 2)
+    yield f"LINESTRING ({listed([on_circle((0, 0), STEP * at, turned + at * turn) for at in range(count)])})"
 
 
 def left_spiral(size: int, _random: Random) -> Iterator[str]:

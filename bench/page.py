@@ -108,7 +108,7 @@ The picture has {of_picture(options)}; of joins that are measured twice, those w
 | zones | random points | areas of 100 vertices, as large as parcels |
 | districts | random points | one such area to 100 points, each as large as 100 parcels |
 | strands | polylines of 10 vertices aslant across the whole square | others between them: all boxes meet, and no lines |
-| spirals | one polyline of 100 turns | another one between its turns, which begins at the same point |
+| spirals | one polyline of as many turns as a turn has vertices | another one between its turns, which begins at the same point |
 | spikes | a few random points | one area of many long thin spikes |
 | giants, near-any | a few areas of 100,000 vertices, half as wide as the layer | such parcels |
 
