@@ -1,17 +1,18 @@
 -- Vertices in order: those at a point stand together, and those on an edge between its left and right end.
-use Rattle.std.proofs.Common.{arith, ◌≡◌, ◌<◌, ◌≤◌, ◌+◌, ◌-◌, ◌⊎◌, inl, inr, ℕ, zero, suc, Bool, true, false, not, cond, ◌&&◌, ◌||◌, List, [], ◌∷◌, length, get_or, take, drop, refl, sym, ap, ◌∙◌, rules, All}
+use Rattle.std.proofs.Common.{arith, ◌≡◌, ◌<◌, ◌≤◌, ◌+◌, ◌-◌, ◌⊎◌, inl, inr, ℕ, zero, suc, Bool, true, false, not, cond, ◌&&◌, ◌||◌, List, [], ◌∷◌, length, get_or, take, drop, length-take, length-drop, min, refl, sym, ap, ◌∙◌, rules, All}
 use Rattle.std.specs.Prelude.{ℤ, pos, ◌*ℤ◌, ◌<ℤ◌, ◌≤ℤ◌, count_by, int_lt, int_le, IsSorted}
-use Rattle.std.specs.List.{list_any}
+use Rattle.std.specs.List.{list_any, Contains}
 use Rattle.std.specs.List.Sorted.{IsPartitionedBy, IsPartitionPoint, IsPermutation}
 use Rattle.std.specs.Cmp.{IsStrictWeakOrder}
 use Rattle.std.specs.Ordering.{int_cmp, int_eq, ordering_then, is_lt, is_gt, is_ge}
 use Rattle.std.specs.declared.cmp.Ordering.{Ordering}
 use Rattle.std.proofs.lemmas.Cmp.{int_cmp_total, on_total, then_total}
-use Rattle.std.proofs.Math.Seq.{take-nil, drop-nil}
 use Rattle.std.proofs.lemmas.Bool.{cases_lt}
 use Rattle.std.proofs.lemmas.Int.{ints}
-use Rattle.std.proofs.lemmas.List.Folds.{list_any_none}
-use Rattle.std.proofs.lemmas.List.Sorted.{ranks_by, sorted_far, list_any-IsPermutation}
+use Rattle.std.proofs.lemmas.List.{get_or-take, get_or-drop}
+use Rattle.std.proofs.lemmas.List.Elements.{All-contains, All-contains_itself, All-drop, All-take}
+use Rattle.std.proofs.lemmas.List.Folds.{Any-from_list_any, list_any_at}
+use Rattle.std.proofs.lemmas.List.Sorted.{ranks_by, sorted_far, list_any-IsPermutation, Contains-permutation, IsPermutation-sym}
 use Rattle.std.proofs.lemmas.List.Sums.{sum_by-cons}
 use Rattle.plane_core.specs.declared.vertex.Vertex.{Vertex}
 use Rattle.plane_core.specs.declared.edge.Edge.{Edge}
@@ -21,7 +22,7 @@ use Rattle.plane_core.specs.Outlines.{count_at}
 use Rattle.plane_core.proofs.Ring.{times-one, times_comm, one-times}
 use Rattle.plane_core.proofs.ScaleLemmas.{less_scaled, no_less_scaled}
 use Rattle.plane_core.proofs.Signs.{wide_z}
-use Rattle.edge_index_core.specs.Ends.{vertex_order, AreInOrder, is_before, is_up_to, is_left_of, is_left_to, IsParted}
+use Rattle.edge_index_core.specs.Ends.{vertex_order, AreInOrder, is_before, is_up_to, is_left_of, is_left_to, IsParted, AreAlong}
 
 -- ---- the order
 
@@ -193,31 +194,68 @@ left_to_right e v h = plain e.a.x e.b.x v.x h
     plain : (a b z : ℤ) → (int_lt z a && int_lt z b) ≡ true → (int_le z a || int_le z b) ≡ true
     plain a b z h = grind (arith, ints)
 
--- whether an item passes a test, by those of a window beyond which none does
-any_window : {X : Type 0} (f : X → Bool) (xs : List X) (i n : ℕ)
-    → ((k : ℕ) (d : X) → k < i → f (get_or xs k d) ≡ false)
-    → ((k : ℕ) (d : X) → i + n ≤ k → k < length xs → f (get_or xs k d) ≡ false)
-    → list_any f (take n (drop i xs)) ≡ list_any f xs
-any_window f [] i n before after = rw (drop-nil i, take-nil n) refl
-any_window f (x ∷ xs) zero zero before after = sym (list_any_none f (x ∷ xs) (λ k d lt. after k d (omega arith) lt))
-any_window f (x ∷ xs) zero (suc n) before after =
-    ap (λ (t : Bool). f x || t) (any_window f xs 0 n (λ k d lt. absurd (none k lt)) (λ k d lo lt. after (suc k) d (omega (arith, lo)) (omega (arith, lt))))
-  where
-    none : (k : ℕ) → k < 0 → ⊥
-    none k lt = omega arith
-any_window f (x ∷ xs) (suc i) n before after =
-    any_window f xs i n (λ k d lt. before (suc k) d (omega (arith, lt))) (λ k d lo lt. after (suc k) d (omega (arith, lo)) (omega (arith, lt)))
-    ∙ sym (ap (λ (t : Bool). t || list_any f xs) (before 0 x (omega arith)))
-
 pub window_order : (e : Edge) (vs : List Vertex) (i j : ℕ) → i ≤ length vs → j ≤ length vs → IsParted (is_left_of e) vs i → IsParted (is_left_to e) vs j → i ≤ j
 window_order e vs i j = no_later (is_left_of e) (is_left_to e) vs i j (left_to_right e)
 
-pub window_any : (e : Edge) (vs : List Vertex) (i j : ℕ) → i ≤ j → IsParted (is_left_of e) vs i → IsParted (is_left_to e) vs j
-    → list_any (λ v. is_on e (at v)) (take (j - i) (drop i vs)) ≡ list_any (λ v. is_on e (at v)) vs
-window_any e vs i j le first last =
-    any_window (λ v. is_on e (at v)) vs i (j - i)
-    (λ k d lt. off_left e (get_or vs k d) (first.0 k d (omega arith) lt))
-    (λ k d lo lt. off_right e (get_or vs k d) (last.1 k d (omega (arith, lo, le)) lt))
+-- an item that passes a test is in a window beyond which none does
+held_window : {X : Type 0} (f : X → Bool) (xs : List X) (i n : ℕ) (x : X)
+    → ((k : ℕ) (d : X) → k < i → f (get_or xs k d) ≡ false)
+    → ((k : ℕ) (d : X) → i + n ≤ k → k < length xs → f (get_or xs k d) ≡ false)
+    → Contains xs x → f x ≡ true → Contains (take n (drop i xs)) x
+held_window f xs i n x before after (k, lt, is) holds = elim (cases_lt k i) [
+  | inl low ↦ absurd (clash (f x) holds (ap f (sym is) ∙ before k x low))
+  | inr from_ ↦ elim (cases_lt k (i + n)) [
+    | inl to_ ↦ (
+      k - i,
+      short (length-take n (drop i xs)) (length-drop i xs) from_ to_,
+      get_or-take n (drop i xs) (k - i) x (omega arith) ∙ get_or-drop i xs (k - i) x ∙ ap (λ (m : ℕ). get_or xs m x) (back from_) ∙ is,
+    )
+    | inr high ↦ absurd (clash (f x) holds (ap f (sym is) ∙ after k x high lt))
+  ]
+]
+  where
+    clash : (t : Bool) → t ≡ true → t ≡ false → ⊥
+    clash t h k = cc
+
+    back : i ≤ k → i + (k - i) ≡ k
+    back h = omega arith
+
+    short : length (take n (drop i xs)) ≡ min n (length (drop i xs)) → length (drop i xs) ≡ length xs - i → i ≤ k → k < i + n → k - i < length (take n (drop i xs))
+    short a b h g = omega (arith, lt)
+
+pub window_along : (e : Edge) (vs : List Vertex) (i j : ℕ) → i ≤ j → IsParted (is_left_of e) vs i → IsParted (is_left_to e) vs j → AreAlong e vs (take (j - i) (drop i vs))
+window_along e vs i j le first last = record {
+  own = All-take (Contains vs) (j - i) (drop i vs) (All-drop (Contains vs) i vs (All-contains_itself vs));
+  kept = λ v one on. held_window (λ u. is_on e (at u)) vs i (j - i) v
+      (λ k d lt. off_left e (get_or vs k d) (first.0 k d (omega arith) lt))
+      (λ k d lo lt. off_right e (get_or vs k d) (last.1 k d (omega (arith, lo, le)) lt))
+      one on;
+}
+
+-- so whether a vertex is on the edge is known by these
+any_of : (e : Edge) (vs ws : List Vertex) → ((v : Vertex) → Contains vs v → is_on e (at v) ≡ true → Contains ws v) → list_any (λ v. is_on e (at v)) vs ≡ true → list_any (λ v. is_on e (at v)) ws ≡ true
+any_of e vs ws kept holds =
+    let some = Any-from_list_any (λ v. is_on e (at v)) vs holds in
+    let here = kept some.1 (some.0, some.2, some.3) some.4 in
+    list_any_at (λ v. is_on e (at v)) ws here.0 some.1 here.1 (ap (λ (u : Vertex). is_on e (at u)) here.2 ∙ some.4)
+
+pub along_any : (e : Edge) (vs ws : List Vertex) → AreAlong e vs ws → list_any (λ v. is_on e (at v)) ws ≡ list_any (λ v. is_on e (at v)) vs
+along_any e vs ws h = same _ _ (any_of e ws vs (λ v one on. All-contains (Contains vs) ws v h.own one)) (any_of e vs ws h.kept)
+  where
+    same : (s t : Bool) → (s ≡ true → t ≡ true) → (t ≡ true → s ≡ true) → s ≡ t
+    same true t f g = sym (f refl)
+    same false true f g = g refl
+    same false false f g = refl
+
+-- the same of vertices in any order
+pub along_same : (e : Edge) (vs ordered ws : List Vertex) → AreInOrder vs ordered → AreAlong e ordered ws → AreAlong e vs ws
+along_same e vs ordered ws is h = record {
+  own = λ k d lt. Contains-permutation ordered vs (get_or ws k d) (IsPermutation-sym vs ordered is.same) (h.own k d lt);
+  kept = λ v one on. h.kept v (Contains-permutation vs ordered v is.same one) on;
+}
+
+pub along_all : (e : Edge) (vs : List Vertex) → AreAlong e vs vs
+along_all e vs = record { own = All-contains_itself vs; kept = λ v one on. one }
 
 pub any_same : (vs ordered : List Vertex) (e : Edge) (b : Bool) → AreInOrder vs ordered → b ≡ list_any (λ v. is_on e (at v)) ordered → b ≡ list_any (λ v. is_on e (at v)) vs
 any_same vs ordered e b h is = is ∙ sym (list_any-IsPermutation (λ v. is_on e (at v)) vs ordered h.same)

@@ -1,12 +1,13 @@
 -- Vertices in order.
 use Rattle.std.specs.Prelude.{◌≡◌, ℕ, Bool, true, false, ◌&&◌, ◌||◌, List, int_lt, int_le}
+use Rattle.std.specs.Prelude.{All, Contains}
 use Rattle.std.specs.Prelude.{IsPermutation, IsSorted}
 use Rattle.std.specs.Ordering.{int_cmp, ordering_then, is_gt, is_ge}
 use Rattle.std.specs.List.Sorted.{IsPartitionPoint}
 use Rattle.std.specs.declared.cmp.Ordering.{Ordering}
 use Rattle.plane_core.specs.declared.vertex.Vertex.{Vertex}
 use Rattle.plane_core.specs.declared.edge.Edge.{Edge}
-use Rattle.plane_core.specs.Points.{Point, at}
+use Rattle.plane_core.specs.Points.{Point, at, is_on}
 use Rattle.plane_core.specs.Places.{place_order}
 
 -- the order by x, and then by y
@@ -35,3 +36,8 @@ is_left_to e v = int_le v.x e.a.x || int_le v.x e.b.x
 -- as many vertices pass a test, and none after them
 abbrev pub IsParted : (Vertex → Bool) → List Vertex → ℕ → Type 0
 IsParted f vs i = IsPartitionPoint (λ v. f v ≡ true) (λ v. f v ≡ false) vs i
+
+-- some of the vertices, with all that are on an edge
+pub record AreAlong (e : Edge) (vs some : List Vertex) : Type 0 where
+  pub own : All (Contains vs) some
+  pub kept : (v : Vertex) → Contains vs v → is_on e (at v) ≡ true → Contains some v

@@ -6,7 +6,7 @@ ghost use Rattle.plane_core.specs.Points.{at, is_on};
 ghost use Rattle.plane_core.specs.Places.{point_of};
 ghost use Rattle.plane_core.specs.Outlines.{count_at};
 ghost use Rattle.edge_index_core.specs.Ends.{vertex_order, AreInOrder, IsParted, is_before};
-ghost use Rattle.edge_index_core.specs.Ends.{is_up_to, is_left_of, is_left_to};
+ghost use Rattle.edge_index_core.specs.Ends.{is_up_to, is_left_of, is_left_to, AreAlong};
 
 use plane_core::{Edge, Place, Vertex};
 use std::alloc::{AllocError, Global};
@@ -93,6 +93,16 @@ fn count_left_to(ordered: &[Vertex], e: &Edge) -> usize
     ordered.partition_point(|v| is_left_to(v, e))
 }
 
+/// The vertices that are neither left nor right of an edge.
+pub(crate) fn between<'a>(ordered: &'a [Vertex], e: &Edge) -> &'a [Vertex]
+    requires { IsSorted vertex_order ordered.now }
+    ensures { AreAlong e.now ordered.now result.now }
+{
+    let start = count_left_of(ordered, e);
+    let end = count_left_to(ordered, e);
+    &ordered[start..end]
+}
+
 /// Whether one of some vertices is on an edge.
 pub(crate) fn is_any_on(vertices: &[Vertex], e: &Edge) -> bool
     ensures { result ≡ list_any (λ v. is_on e.now (at v)) vertices.now }
@@ -105,7 +115,5 @@ pub(crate) fn is_any_between(ordered: &[Vertex], e: &Edge) -> bool
     requires { IsSorted vertex_order ordered.now }
     ensures { result ≡ list_any (λ v. is_on e.now (at v)) ordered.now }
 {
-    let start = count_left_of(ordered, e);
-    let end = count_left_to(ordered, e);
-    is_any_on(&ordered[start..end], e)
+    is_any_on(between(ordered, e), e)
 }

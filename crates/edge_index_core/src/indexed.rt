@@ -7,14 +7,14 @@ ghost use Rattle.plane_core.specs.Points.{at, is_on};
 ghost use Rattle.plane_core.specs.Places.{point_of};
 ghost use Rattle.plane_core.specs.Outlines.{outline_part, outline_above, IsScan, count_at};
 ghost use Rattle.edge_index_core.specs.Around.{AreAround};
-ghost use Rattle.edge_index_core.specs.Ends.{AreInOrder};
+ghost use Rattle.edge_index_core.specs.Ends.{AreInOrder, AreAlong};
 ghost use Rattle.edge_index_core.specs.Indexes.{IsIndexOf};
 ghost use Rattle.edge_index_core.specs.Runs.{AreRunBoxes};
 ghost use Rattle.edge_index_core.specs.Starts.{AreWithin};
 ghost use Rattle.edge_index_core.specs.Trees.{IsTreeOf};
 
 use crate::around::{find_around, runs_around, scan_around};
-use crate::ends::{count_at, in_order, is_any_between, is_any_on};
+use crate::ends::{between, count_at, in_order, is_any_between, is_any_on};
 use crate::entries::entries_of;
 use crate::runs::{run_boxes, scan_runs};
 use crate::scan::scan_node;
@@ -232,6 +232,16 @@ impl IndexedOutline {
         match &self.ordered_ends {
             Some(ordered) => count_at(ordered, p),
             None => self.outline.count_at(p),
+        }
+    }
+
+    /// Some of the points, or of the ends of polylines, among them all that are on an edge.
+    pub fn ends_along(&self, e: &Edge) -> &[Vertex]
+        ensures { AreAlong e.now self.now.ends.items result.now }
+    {
+        match &self.ordered_ends {
+            Some(ordered) => between(ordered, e),
+            None => &self.outline.ends,
         }
     }
 
