@@ -9,4 +9,5 @@ pub mod OutsideLemmas
 pub mod RoundLemmas
 pub mod SettledLemmas
 pub mod SharedLemmas
+pub mod SingleLemmas
 pub mod WalkLemmas

@@ -6,3 +6,4 @@ pub mod Known
 pub mod Prepared
 pub mod Seen
 pub mod Shared
+pub mod Single

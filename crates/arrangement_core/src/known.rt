@@ -66,8 +66,16 @@ fn is_clear(kind: Kind, near: &[Edge]) -> bool
     kind != Kind::Points && near.is_empty()
 }
 
+/// Whether a geometry consists of points, and none of them is on an edge, so that the edge lies in
+/// its exterior.
+fn is_off_points(other: &IndexedOutline, e: &Edge) -> bool
+    ensures { IsTrue result → LiesIn other.now e.now Part.Exterior }
+{
+    other.outline().kind == Kind::Points && !other.has_end_on(e)
+}
+
 /// The last end of an edge, and the part of the second geometry in which the edge lies: one that
-/// has none of its edges near it lies in one part.
+/// has none of its edges near it, or none of its points on it, lies in one part.
 pub(crate) fn seen_along(pair: &Pair, e: &Edge, near: &[Edge], seen: Option<Seen>) -> Option<Seen>
     requires bounded { IsBounded pair.now.second.now pair.now.second_box }
     requires found { All (IsFound e.now near.now) pair.now.second.now.edges.items }
@@ -78,6 +86,11 @@ pub(crate) fn seen_along(pair: &Pair, e: &Edge, near: &[Edge], seen: Option<Seen
     if is_clear(outline.kind, near) {
         let part = part_from(pair, &e.a, seen);
         Some(Seen { vertex: e.b, part })
+    } else if is_off_points(pair.second, e) {
+        Some(Seen {
+            vertex: e.b,
+            part: Part::Exterior,
+        })
     } else {
         None
     }

@@ -10,6 +10,7 @@ mod matrices;
 mod near;
 mod outside;
 mod pair;
+mod points;
 mod prepared;
 mod rounds;
 mod shared;

@@ -9,18 +9,19 @@ ghost use Rattle.shown_core.specs.Beyond.{IsBounded};
 ghost use Rattle.edge_index_core.specs.Beyond.{is_beyond};
 ghost use Rattle.arrangement_core.specs.Seen.{IsSeen, IsCourseIn, AreNear};
 ghost use Rattle.arrangement_core.specs.Shared.{HasShared};
-ghost use Rattle.noding_core.specs.ReadOffs.{points_by, outline_edges, outline_points, IsOwn};
+ghost use Rattle.noding_core.specs.ReadOffs.{outline_edges, IsOwn};
 ghost use Rattle.noding_core.specs.ReadOffs.{IsOneOf, IsEdgeMarked, AreMarked};
 
 use crate::known::{adds_none_near, part_seen, seen_along};
 use crate::near::push_second;
 use crate::pair::Pair;
+use crate::points::{Points, find_along};
 use crate::shared::adds_none_shared;
 use crate::walk::mark_noded;
 use crate::wanted::{Stop, Wanted, go_on};
 use crate::work::Work;
 use noding_core::{gather_nodes, push_near};
-use plane_core::{Edge, Kind, Outline, Part, Vertex};
+use plane_core::{Edge, Part};
 use relation_core::Matrix;
 use shown_core::{Course, course_of, is_edge_shown};
 use std::alloc::{AllocError, Global};
@@ -31,38 +32,13 @@ const USUALLY_NEAR: usize = 16;
 /// As many nodes as most edges have.
 const USUAL_NODES: usize = 8;
 
-/// Adds the points of a geometry, if it consists of points.
-fn push_points(points: &mut Vec<Vertex>, a: &Outline) -> Result<(), AllocError>
-    ensures { OnOk result
-        (points.new.items ≡ points.old.items ++ points_by a.now.kind a.now.ends.items) }
-{
-    match a.kind {
-        Kind::Points => {
-            points.extend_from_slice(&a.ends)?;
-            Ok(())
-        }
-        Kind::Lines => Ok(()),
-        Kind::Areas => Ok(()),
-    }
-}
-
-/// The points of both geometries.
-pub(crate) fn all_points(alloc: Global, a: &Outline, b: &Outline) -> Result<Vec<Vertex>, AllocError>
-    ensures { IfOk result (λ v. v.items ≡ outline_points a.now b.now) }
-{
-    let mut points = Vec::new(alloc);
-    push_points(&mut points, a)?;
-    push_points(&mut points, b)?;
-    Ok(points)
-}
-
 /// A matrix that shows an edge of the first geometry, given the edges of the second near it: its
 /// nodes, its pieces, and the faces above these.
 fn mark_near_edge(
     work: &mut Work,
     matrix: Matrix,
     pair: &Pair,
-    points: &[Vertex],
+    points: &Points,
     course: &Course,
 ) -> Result<Matrix, AllocError>
     requires one { let a = pair.now.first.now in let b = pair.now.second.now in
@@ -77,8 +53,10 @@ fn mark_near_edge(
 {
     let others = work.near.as_slice().len();
     push_near(&mut work.near, &course.edge, pair.first)?;
+    find_along(&mut work.points, points, &course.edge)?;
     let near = work.near.as_slice();
-    gather_nodes(&mut work.nodes, &course.edge, near, points)?;
+    let along = work.points.as_slice();
+    gather_nodes(&mut work.nodes, &course.edge, near, along)?;
     let nodes = work.nodes.as_slice();
     let (second, _) = near.split_at(others);
     let marked = mark_noded(matrix, pair, course, second, nodes);
@@ -91,7 +69,7 @@ pub(crate) fn mark_edge(
     work: &mut Work,
     matrix: Matrix,
     pair: &Pair,
-    points: &[Vertex],
+    points: &Points,
     e: &Edge,
 ) -> Result<Matrix, AllocError>
     requires bounded { IsBounded pair.now.second.now pair.now.second_box }
@@ -126,7 +104,7 @@ pub(crate) fn mark_outer_edge(
     work: &mut Work,
     matrix: Matrix,
     pair: &Pair,
-    points: &[Vertex],
+    points: &Points,
     e: &Edge,
 ) -> Result<Matrix, AllocError>
     requires bounded { IsBounded pair.now.second.now pair.now.second_box }
@@ -154,6 +132,7 @@ pub(crate) fn no_work(alloc: Global) -> Result<Work, AllocError>
 {
     Ok(Work {
         near: Vec::with_capacity(alloc, USUALLY_NEAR)?,
+        points: Vec::new(alloc),
         nodes: Vec::with_capacity(alloc, USUAL_NODES)?,
         seen: None,
     })
@@ -164,7 +143,7 @@ pub(crate) fn mark_some(
     work: &mut Work,
     matrix: Matrix,
     pair: &Pair,
-    points: &[Vertex],
+    points: &Points,
     edges: &[Edge],
     wanted: &Wanted,
 ) -> Result<Matrix, Stop>

@@ -14,13 +14,14 @@ ghost use Rattle.noding_core.specs.ReadOffs.{outline_edges, outline_points, IsOw
 ghost use Rattle.noding_core.specs.ReadOffs.{AreSomeMarked, AreAllMarked, IsReadOffBy};
 
 use crate::marks::mark_points;
-use crate::matrices::{all_points, mark_outer_edge, mark_some, no_work};
+use crate::matrices::{mark_outer_edge, mark_some, no_work};
 use crate::pair::Pair;
+use crate::points::Points;
 use crate::wanted::{Stop, Wanted};
 use crate::work::Work;
 use edge_index_core::is_beyond;
 use noding_core::{outside, transposed};
-use plane_core::{Edge, Kind, Vertex};
+use plane_core::{Edge, Kind};
 use relation_core::Matrix;
 use shown_core::is_outer_shown;
 use std::alloc::{AllocError, Global};
@@ -47,7 +48,7 @@ fn mark_edges(
     work: &mut Work,
     matrix: Matrix,
     pair: &Pair,
-    points: &[Vertex],
+    points: &Points,
     edges: &[Edge],
     wanted: &Wanted,
 ) -> Result<Matrix, Stop>
@@ -80,7 +81,7 @@ fn mark_around(
     work: &mut Work,
     matrix: Matrix,
     pair: &Pair,
-    points: &[Vertex],
+    points: &Points,
     wanted: &Wanted,
 ) -> Result<Matrix, Stop>
     requires long { All HasLength (outline_edges pair.now.first.now pair.now.second.now) }
@@ -111,7 +112,7 @@ fn mark_beyond(
     work: &mut Work,
     matrix: Matrix,
     pair: &Pair,
-    points: &[Vertex],
+    points: &Points,
     edges: &[Edge],
 ) -> Result<Matrix, AllocError>
     requires long { All HasLength (outline_edges pair.now.first.now pair.now.second.now) }
@@ -157,7 +158,7 @@ fn mark_outer(
     work: &mut Work,
     matrix: Matrix,
     pair: &Pair,
-    points: &[Vertex],
+    points: &Points,
 ) -> Result<Matrix, AllocError>
     requires long { All HasLength (outline_edges pair.now.first.now pair.now.second.now) }
     requires first { IsBounded pair.now.first.now pair.now.first_box }
@@ -179,12 +180,7 @@ fn mark_outer(
 }
 
 /// The matrix with all edges of two geometries, or an early end.
-fn mark_both(
-    work: &mut Work,
-    pair: &Pair,
-    points: &[Vertex],
-    wanted: &Wanted,
-) -> Result<Matrix, Stop>
+fn mark_both(work: &mut Work, pair: &Pair, points: &Points, wanted: &Wanted) -> Result<Matrix, Stop>
     requires long { All HasLength (outline_edges pair.now.first.now pair.now.second.now) }
     requires first { IsBounded pair.now.first.now pair.now.first_box }
     requires second { IsBounded pair.now.second.now pair.now.second_box }
@@ -224,10 +220,12 @@ pub(crate) fn read_off(alloc: Global, pair: &Pair, wanted: &Wanted) -> Result<Ma
     ensures stop { let a = pair.now.first.now in let b = pair.now.second.now in
         IfErr result (IsStop wanted.now a b) }
 {
-    let point_list = all_points(alloc, pair.first.outline(), pair.second.outline())?;
-    let points = point_list.as_slice();
+    let points = Points {
+        first: pair.first,
+        second: pair.second,
+    };
     let mut work = no_work(alloc)?;
-    let marked = mark_both(&mut work, pair, points, wanted)?;
+    let marked = mark_both(&mut work, pair, &points, wanted)?;
     let with_first = mark_points(marked, pair.first, pair.second);
     let turned = transposed(&with_first);
     let with_second = mark_points(turned, pair.second, pair.first);

@@ -13,3 +13,6 @@ returns-then-is_clear c =
       lies = subst (LiesIn o e) (sym c.part_from-part.ensures)
           (lies_clear o c.args.pair.now.second_box e c.args.near.now c.requires.bounded (rw c.outline-outline.ensures at c.is_clear.ensures.edges holds) (c.is_clear.ensures.none holds) c.requires.found);
     }
+
+pub returns-then-is_off_points : goal.returns-then-is_off_points
+returns-then-is_off_points c = record { end = refl; lies = c.is_off_points.ensures c.if-is_off_points.true }

@@ -6,6 +6,7 @@ use Rattle.noding_core.proofs.NodeLemmas.{all_among}
 use Rattle.noding_core.proofs.NearLemmas.{all_found_kept, near_nodes}
 use Rattle.noding_core.proofs.ReadOffLemmas.{edge_marked}
 use Rattle.shown_core.proofs.ShownLemmas.{cuts_at}
+use Rattle.arrangement_core.proofs.SingleLemmas.{nodes_along}
 use Rattle.arrangement_core.proofs.WalkLemmas.{first_near}
 use Rattle.arrangement_core.proofs.matrices.mark_near_edge.Goals as goal
 
@@ -23,7 +24,8 @@ mark_noded-marked-requires-clause-cuts c =
     let near = c.in_ok-push_near.ensures in
     let found = All-append (IsFound e _) a.edges.items b.edges.items near.found (all_found_kept e _ _ b.edges.items near.kept c.requires.near.found) in
     cuts_at _ _ _ _ _ _ c.as_slice-nodes.result.now c.requires.one
-    (near_nodes e (outline_edges a b) _ _ _ found (rw c.as_slice-near.ensures.value at c.in_ok-gather_nodes.ensures)) c.as_slice-nodes.ensures.value
+    (nodes_along e (outline_edges a b) c.args.points.now _ _ c.in_ok-find_along.ensures
+    (near_nodes e (outline_edges a b) _ _ _ found (rw (c.as_slice-near.ensures.value, c.as_slice-along.ensures.value) at c.in_ok-gather_nodes.ensures))) c.as_slice-nodes.ensures.value
 
 pub returns-clause-marked : goal.returns-clause-marked
 returns-clause-marked c =
@@ -33,7 +35,8 @@ returns-clause-marked c =
     let near = c.in_ok-push_near.ensures in
     let found = All-append (IsFound e _) a.edges.items b.edges.items near.found (all_found_kept e _ _ b.edges.items near.kept c.requires.near.found) in
     edge_marked _ _ _ _ _ _ c.as_slice-nodes.result.now _ _
-    (near_nodes e (outline_edges a b) _ _ _ found (rw c.as_slice-near.ensures.value at c.in_ok-gather_nodes.ensures)) c.as_slice-nodes.ensures.value c.mark_noded-marked.ensures
+    (nodes_along e (outline_edges a b) c.args.points.now _ _ c.in_ok-find_along.ensures
+    (near_nodes e (outline_edges a b) _ _ _ found (rw (c.as_slice-near.ensures.value, c.as_slice-along.ensures.value) at c.in_ok-gather_nodes.ensures))) c.as_slice-nodes.ensures.value c.mark_noded-marked.ensures
 
 pub mark_noded-marked-requires-clause-near : goal.mark_noded-marked-requires-clause-near
 mark_noded-marked-requires-clause-near c =
