@@ -39,6 +39,7 @@ use Rattle.noding_core.proofs.GapLemmas.{IsOffEach, part_after, part_before}
 use Rattle.noding_core.proofs.GrowthLemmas.{grown_none, grown-trans}
 use Rattle.noding_core.proofs.NearLemmas.{near_of}
 use Rattle.noding_core.proofs.NodeLemmas.{all_among, gap_first, gap_second}
+use Rattle.noding_core.proofs.OffPartLemmas.{off_part-is}
 use Rattle.noding_core.proofs.PathLemmas.{edge_length}
 use Rattle.noding_core.proofs.ReadOffLemmas.{before_order, map_among}
 use Rattle.noding_core.proofs.TestLemmas.{by_test, clash, first_holds, second_holds}
@@ -259,6 +260,23 @@ near_off o e near p h wide on off = none_any (λ f. is_on f p) o.edges.items
     (λ f one. by_test (is_on f p)
     (λ yes. clash (list_any (λ f. is_on f p) near) (any_among (λ f. is_on f p) near f (near_of e f near p wide on yes (all_among (IsFound e near) f o.edges.items h.found one)) yes) off)
     (λ none. none))
+
+-- a point on one of these is on an edge of the geometry
+pub near_on : (o : Outline) (e : Edge) (near : List Edge) (p : Point) → AreNear o e near → list_any (λ f. is_on f p) near ≡ true → list_any (λ f. is_on f p) o.edges.items ≡ true
+near_on o e near p h on = by_test (list_any (λ f. is_on f p) o.edges.items)
+    (λ here. here)
+    (λ none. clash (list_any (λ f. is_on f p) near) on (none_any (λ f. is_on f p) near (λ f one. none_on (λ f. is_on f p) o.edges.items f none (h.own f one))))
+
+-- a point on no edge of polylines lies in their exterior
+figure_off : (g : Figure) (p : Point) → IsGeometry g → kind_of g ≡ Polylines → ((f : Edge) → IsAmong f (edges_of g) → is_on f p ≡ false) → part_of g p ≡ Exterior
+figure_off (Points vs) p good lines off = cc
+figure_off (Lines paths) p good lines off = off_part-is (Lines paths) p good (record { edges = off; points = λ v one. absurd one })
+figure_off (Areas rings) p good lines off = cc
+
+pub lines_off : (o : Outline) (s : Shape) (p : Point) → IsBounded o s → o.kind ≡ Polylines → list_any (λ f. is_on f p) o.edges.items ≡ false → outline_part o p ≡ Exterior
+lines_off o s p b lines off =
+    outline_part-is b.figure o p b.outline
+    ∙ figure_off b.figure p b.geometry (sym b.outline.kind ∙ lines) (λ f one. none_on (λ f. is_on f p) o.edges.items f off (subst (IsAmong f) (sym b.outline.edges) one))
 
 -- edges that were added first
 pub first_near : (o : Outline) (e : Edge) (old new taken : List Edge) → Extends old new → taken ≡ take (length old) new → AreNear o e old → AreNear o e taken

@@ -3,37 +3,23 @@
 //! The rows of matrices are the parts of the first of two geometries. A point is located in the
 //! other geometry only if this can still change the matrix.
 
-ghost use Rattle.std.specs.Prelude.{◌≡◌, [], ◌∷◌, IsTrue};
-ghost use Rattle.relation_core.specs.declared.extent.Extent.TheVariants.{Point as Dot};
+ghost use Rattle.std.specs.Prelude.{◌≡◌, [], ◌∷◌};
 ghost use Rattle.plane_core.specs.Places.{point_of};
-ghost use Rattle.plane_core.specs.PlaneMatrices.{pick};
 ghost use Rattle.noding_core.specs.Growth.{HasGrownBy, mark_in, mark_beside, point_marks};
 ghost use Rattle.noding_core.specs.ReadOffs.{points_by};
-ghost use Rattle.shown_core.specs.Shown.{all_parts, AreShown};
 
 use edge_index_core::IndexedOutline;
-use noding_core::{column_of, raised, row_of};
+use noding_core::{column_of, raised};
 use plane_core::{Kind, Part, Place};
 use relation_core::{Extent, Matrix};
-use shown_core::{all_parts, are_shown, parts_above};
-
-/// Whether a matrix includes a point of which one part is known, wherever it lies in the other
-/// geometry.
-pub(crate) fn is_point_shown(matrix: &Matrix, part: Part, other: &IndexedOutline) -> bool
-    ensures { let parts = all_parts other.now.kind in
-        IsTrue result → AreShown (pick part matrix.now.rows) parts Dot }
-{
-    let row = row_of(matrix, part);
-    let kind = other.outline().kind;
-    are_shown(&row, &all_parts(kind), Extent::Point)
-}
+use shown_core::{are_shown, is_place_shown, parts_above};
 
 /// The matrix with a point of which one part is known. The other part is located only if the matrix
 /// may not include the point yet.
 fn mark_place(matrix: Matrix, part: Part, other: &IndexedOutline, p: &Place) -> Matrix
     ensures { HasGrownBy (mark_in part other.now (point_of p.now) ∷ []) matrix result }
 {
-    if is_point_shown(&matrix, part, other) {
+    if is_place_shown(&matrix, part, other, p, Extent::Point) {
         matrix
     } else {
         let standing = other.standing_at(p);

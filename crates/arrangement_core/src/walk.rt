@@ -5,20 +5,19 @@
 //! that was located is kept from point to point until then. Where one edge of the area crosses the
 //! edge, the part from there on is the other one.
 
-ghost use Rattle.std.specs.Prelude.{◌≡◌, ◌≢◌, ◌<◌, ◌≤◌, [], ◌∷◌, ◌++◌, map, length, true};
+ghost use Rattle.std.specs.Prelude.{◌≡◌, ◌≢◌, ◌<◌, ◌≤◌, [], ◌∷◌, ◌++◌, map, length, true, false};
 ghost use Rattle.std.specs.Prelude.{IsTrue, IfSome};
 ghost use Rattle.std.specs.List.{list_any, slice_index_or};
 ghost use Rattle.std.specs.Ordering.{int_eq};
 ghost use Rattle.relation_core.specs.declared.extent.Extent.TheVariants.{Point as Dot};
 ghost use Rattle.plane_core.specs.Points.{is_on};
 ghost use Rattle.plane_core.specs.Places.{point_of, node_point};
-ghost use Rattle.plane_core.specs.Outlines.{outline_part};
-ghost use Rattle.plane_core.specs.PlaneMatrices.{entry, pick};
+ghost use Rattle.plane_core.specs.Outlines.{outline_part, outline_above};
+ghost use Rattle.plane_core.specs.PlaneMatrices.{entry};
 ghost use Rattle.shown_core.specs.Beyond.{IsBounded};
 ghost use Rattle.shown_core.specs.Lying.{IsKnownIn, LiesOff};
 ghost use Rattle.arrangement_core.specs.Crossed.{LiesAfter, LiesBefore};
 ghost use Rattle.arrangement_core.specs.Seen.{IsCourseIn, AreNear, is_vertex};
-ghost use Rattle.shown_core.specs.Shown.{all_parts, AreShown};
 ghost use Rattle.shown_core.specs.Shown.{IsOnEdge, IsOnCourse, IsUncrossed, AreCuts, AreNext};
 ghost use Rattle.noding_core.specs.Marks.{rank};
 ghost use Rattle.noding_core.specs.Nodes.{NodedEdge};
@@ -26,14 +25,14 @@ ghost use Rattle.noding_core.specs.Growth.{HasGrownBy, mark_at, mark_in, piece_m
 ghost use Rattle.noding_core.specs.Growth.{edge_marks};
 
 use crate::crossed::{Met, edge_at, part_across};
-use crate::marks::{is_point_shown, mark_above};
+use crate::marks::mark_above;
 use crate::outside::is_end_outside;
 use crate::pair::Pair;
 use edge_index_core::IndexedOutline;
 use noding_core::raised;
-use plane_core::{Edge, Kind, Node, Part, Place, Spot, Vertex};
+use plane_core::{Edge, Kind, Node, Part, Place, Spot, Standing, Vertex};
 use relation_core::{Extent, Matrix};
-use shown_core::{Course, is_piece_shown, part_on_edge, standing_of};
+use shown_core::{Course, is_piece_shown, is_place_shown, part_on_edge, standing_of};
 
 /// A matrix that grows along an edge, and the part of the second geometry in which the last piece
 /// lies, or from the last node on the next one, if it is known to be off the boundary of an area.
@@ -96,12 +95,12 @@ pub(crate) fn is_on(e: &Edge, p: &Spot) -> bool
 
 /// Whether a matrix includes a node wherever it lies in the second geometry, and no part is handed
 /// on from it.
-fn is_settled(walk: &Walk, part: Part, other: &IndexedOutline, is_last: bool) -> bool
-    ensures { let parts = all_parts other.now.kind in
-        IsTrue result → AreShown (pick part walk.now.matrix.rows) parts Dot }
+fn is_settled(walk: &Walk, part: Part, other: &IndexedOutline, p: &Place, is_last: bool) -> bool
+    ensures { let second = outline_part other.now (point_of p.now) in
+        IsTrue result → 1 ≤ rank (entry walk.now.matrix part second) }
 {
     if is_last || walk.part.is_none() {
-        is_point_shown(&walk.matrix, part, other)
+        is_place_shown(&walk.matrix, part, other, p, Extent::Point)
     } else {
         false
     }
@@ -134,7 +133,7 @@ fn add_off(walk: Walk, pair: &Pair, course: &Course, part: Part, p: &Place) -> W
         HasGrownBy marks walk.matrix result.matrix }
     ensures off { IfSome result.part (LiesOff pair.now.second.now (point_of p.now)) }
 {
-    if is_point_shown(&walk.matrix, part, pair.second) {
+    if is_place_shown(&walk.matrix, part, pair.second, p, Extent::Point) {
         return walk;
     }
     let known = part_outside(walk.part, pair, course, p);
@@ -142,6 +141,34 @@ fn add_off(walk: Walk, pair: &Pair, course: &Course, part: Part, p: &Place) -> W
     let matrix = raised(walk.matrix, part, standing.part, Extent::Point);
     let off = part_off(pair.second.outline().kind, standing.part);
     Walk { matrix, part: off }
+}
+
+/// Whether a geometry consists of polylines.
+fn is_of_lines(other: &IndexedOutline) -> bool
+    ensures { IsTrue result → other.now.kind ≡ Kind.Lines }
+{
+    other.outline().kind == Kind::Lines
+}
+
+/// Adds a node that is on no edge of the second geometry, of which the part in the first is known.
+/// If that consists of polylines, the node lies in its exterior.
+fn add_beside(walk: Walk, pair: &Pair, course: &Course, part: Part, p: &Place) -> Walk
+    requires bounded { IsBounded pair.now.second.now pair.now.second_box }
+    requires known { IsKnownIn pair.now.second.now course.now }
+    requires on { is_on course.now.edge (point_of p.now) ≡ true }
+    requires nowhere { let p = point_of p.now in
+        list_any (λ f. is_on f p) pair.now.second.now.edges.items ≡ false }
+    requires off { IfSome walk.part (LiesOff pair.now.second.now (point_of p.now)) }
+    ensures grown { let marks = mark_in part pair.now.second.now (point_of p.now) ∷ [] in
+        HasGrownBy marks walk.matrix result.matrix }
+    ensures off { IfSome result.part (LiesOff pair.now.second.now (point_of p.now)) }
+{
+    if is_of_lines(pair.second) {
+        let matrix = raised(walk.matrix, part, Part::Exterior, Extent::Point);
+        Walk { matrix, part: None }
+    } else {
+        add_off(walk, pair, course, part, p)
+    }
 }
 
 /// Adds a node that is on an edge of the second geometry, of which the part in the first is known.
@@ -182,11 +209,11 @@ fn add_node(
         IfSome result.part (LiesAfter a b course.now.edge (point_of p.now)) }
 {
     let part = part_on_edge(pair.first, p);
-    if is_settled(&walk, part, pair.second, is_last) {
+    if is_settled(&walk, part, pair.second, p, is_last) {
         return Walk { part: None, ..walk };
     }
     match edge_at(near, &Spot::of(p), walk.part.is_some()) {
-        Met::Nowhere => add_off(walk, pair, course, part, p),
+        Met::Nowhere => add_beside(walk, pair, course, part, p),
         Met::Once(f) => {
             let after = part_across(walk.part, &course.edge, &f, pair.second.edges());
             add_on(walk, pair, part, p, after)
@@ -195,10 +222,62 @@ fn add_node(
     }
 }
 
-/// Adds the piece of the edge on which a point lies, and the face above it, by their places.
-fn place_piece(walk: Walk, pair: &Pair, course: &Course, p: &Place) -> Walk
+/// Whether a point is on one of some edges.
+fn is_on_any(near: &[Edge], p: &Spot) -> bool
+    ensures { result ≡ list_any (λ f. is_on f (point_of p.now.place)) near.now }
+{
+    near.iter().any(|f| is_on(f, p))
+}
+
+/// The part of polylines in which a point of an edge lies, by those of their edges near that edge.
+fn part_among(pair: &Pair, e: &Edge, near: &[Edge], p: &Place) -> Part
+    requires bounded { IsBounded pair.now.second.now pair.now.second_box }
+    requires lines { pair.now.second.now.kind ≡ Kind.Lines }
+    requires near { AreNear pair.now.second.now e.now near.now }
+    requires on { is_on e.now (point_of p.now) ≡ true }
+    ensures { result ≡ outline_part pair.now.second.now (point_of p.now) }
+{
+    let spot = Spot::of(p);
+    if is_on_any(near, &spot) {
+        part_on_edge(pair.second, p)
+    } else {
+        Part::Exterior
+    }
+}
+
+/// The part of the second geometry in which a point of the edge lies, and the part just above it,
+/// unless they are known: in polylines by their edges near the edge, else looked up.
+fn standing_near(
+    pair: &Pair,
+    course: &Course,
+    near: &[Edge],
+    off: Option<Part>,
+    p: &Place,
+) -> Standing
     requires bounded { IsBounded pair.now.second.now pair.now.second_box }
     requires known { IsKnownIn pair.now.second.now course.now }
+    requires near { AreNear pair.now.second.now course.now.edge near.now }
+    requires on { is_on course.now.edge (point_of p.now) ≡ true }
+    requires off { IfSome off (LiesOff pair.now.second.now (point_of p.now)) }
+    ensures part { result.part ≡ outline_part pair.now.second.now (point_of p.now) }
+    ensures above { result.above ≡ outline_above pair.now.second.now (point_of p.now) }
+{
+    if is_of_lines(pair.second) {
+        let part = part_among(pair, &course.edge, near, p);
+        Standing {
+            part,
+            above: Part::Exterior,
+        }
+    } else {
+        standing_of(pair.second, course, off, p)
+    }
+}
+
+/// Adds the piece of the edge on which a point lies, and the face above it, by their places.
+fn place_piece(walk: Walk, pair: &Pair, course: &Course, near: &[Edge], p: &Place) -> Walk
+    requires bounded { IsBounded pair.now.second.now pair.now.second_box }
+    requires known { IsKnownIn pair.now.second.now course.now }
+    requires near { AreNear pair.now.second.now course.now.edge near.now }
     requires on { IsOnCourse pair.now.first.now course.now (point_of p.now) }
     requires off { IfSome walk.part (LiesOff pair.now.second.now (point_of p.now)) }
     ensures grown { let a = pair.now.first.now in let b = pair.now.second.now in
@@ -206,7 +285,7 @@ fn place_piece(walk: Walk, pair: &Pair, course: &Course, p: &Place) -> Walk
     ensures off { IfSome result.part (LiesOff pair.now.second.now (point_of p.now)) }
 {
     let part = part_on_edge(pair.first, p);
-    let standing = standing_of(pair.second, course, walk.part, p);
+    let standing = standing_near(pair, course, near, walk.part, p);
     let off = part_off(pair.second.outline().kind, standing.part);
     let on = raised(walk.matrix, part, standing.part, Extent::Line);
     if course.edge.is_vertical() {
@@ -221,9 +300,10 @@ fn place_piece(walk: Walk, pair: &Pair, course: &Course, p: &Place) -> Walk
 
 /// Adds the piece of the edge on which a point lies, and the face above it. The matrix is unchanged
 /// if it includes all that these can be.
-fn add_piece(walk: Walk, pair: &Pair, course: &Course, p: &Place) -> Walk
+fn add_piece(walk: Walk, pair: &Pair, course: &Course, near: &[Edge], p: &Place) -> Walk
     requires bounded { IsBounded pair.now.second.now pair.now.second_box }
     requires course { IsCourseIn pair.now.second.now course.now }
+    requires near { AreNear pair.now.second.now course.now.edge near.now }
     requires on { IsOnEdge pair.now.first.now (point_of p.now) }
     requires uncrossed { IsUncrossed pair.now.second.now course.now.edge (point_of p.now) }
     requires off { IfSome walk.part (LiesOff pair.now.second.now (point_of p.now)) }
@@ -234,7 +314,7 @@ fn add_piece(walk: Walk, pair: &Pair, course: &Course, p: &Place) -> Walk
     if is_piece_shown(&walk.matrix, pair.first, pair.second, course, p) {
         walk
     } else {
-        place_piece(walk, pair, course, p)
+        place_piece(walk, pair, course, near, p)
     }
 }
 
@@ -267,7 +347,7 @@ fn step(
 {
     if k.compare(l).is_lt() {
         add_node(
-            add_piece(walk, pair, course, &k.middle(l)),
+            add_piece(walk, pair, course, near, &k.middle(l)),
             pair,
             course,
             near,

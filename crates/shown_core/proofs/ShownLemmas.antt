@@ -31,7 +31,7 @@ use Rattle.noding_core.specs.Nodes.{IsAmong, IsPointOf, AreNodesOf, Meeting, IsG
 use Rattle.noding_core.specs.Marks.{rank}
 use Rattle.noding_core.specs.Growth.{HasGrownBy, mark_at, mark_above, mark_beside, mark_in, piece_marks, transposed}
 use Rattle.noding_core.specs.ReadOffs.{outline_edges, AreEdgesOf, IsOneOf}
-use Rattle.shown_core.specs.Shown.{AreShown, all_parts, parts_above, rest_by, rest_parts, IsOnCourse, is_along, IsUncrossed, AreCuts, AreFacesShown, IsFaceShown}
+use Rattle.shown_core.specs.Shown.{AreShown, all_parts, parts_above, rest_by, rest_parts, IsOnCourse, is_along, IsUncrossed, AreCuts, AreFacesShown, IsFaceShown, is_odd_end, parts_off_ends}
 use Rattle.noding_core.proofs.OrderLemmas.{up_to_before, before_up_to}
 use Rattle.noding_core.proofs.LineLemmas.{IsForward, on_level, within_from_on, on_from_within}
 use Rattle.noding_core.proofs.FlipLemmas.{flip, is_on-flip, turn_of-turned, forward_or_flipped, is_at-itself, first_level}
@@ -117,6 +117,18 @@ pub shown_of_rest : (m : Matrix) (i : Part) (other : Outline) (e : Edge) (p : Po
 shown_of_rest m i other e p row x is h in_ apart =
     subst (λ (r : Parts Extent). rank x ≤ rank (pick (outline_part other p) r)) is
     (h (outline_part other p) (in_rest other.kind other.ends.items other.edges.items p (off_others other e p in_ apart)))
+
+-- a point of polylines that is no end of them
+in_off_ends : (odd on : Bool) → odd ≡ false → pick (if odd then Boundary else (if on then Interior else Exterior)) parts_off_ends ≡ true
+in_off_ends odd on off = rw off (one_of_two on false)
+
+pub shown_off_ends : (row : Parts Extent) (other : Outline) (p : Point) (parts : Parts Bool) (x : Extent) → other.kind ≡ Polylines → is_odd_end other p ≡ false
+    → parts ≡ parts_off_ends → AreShown row parts x → rank x ≤ rank (pick (outline_part other p) row)
+shown_off_ends row other p parts x lines off is h =
+    h (outline_part other p) (rw (is, lines) (in_off_ends (is_odd_end other p) (list_any (λ e. is_on e p) other.edges.items) off))
+
+pub shown_in : (m : Matrix) (i j : Part) (row : Parts Extent) (x : Extent) → row ≡ pick i m.rows → rank x ≤ rank (pick j row) → rank x ≤ rank (entry m i j)
+shown_in m i j row x is h = subst (λ (r : Parts Extent). rank x ≤ rank (pick j r)) is h
 
 -- a place that adds nothing
 pub place_shown : (m : Matrix) (i : Part) (other : Outline) (p : Point) (row : Parts Extent) → row ≡ pick i m.rows → AreShown row (all_parts other.kind) Dot → HasGrownBy (mark_in i other p ∷ []) m m

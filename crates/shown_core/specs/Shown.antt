@@ -37,6 +37,10 @@ parts_above Dots = record { interior = false; boundary = false; exterior = true 
 parts_above Polylines = record { interior = false; boundary = false; exterior = true }
 parts_above Rings = record { interior = true; boundary = false; exterior = true }
 
+-- the parts of polylines in which a point can lie that is no end of them
+abbrev pub parts_off_ends : Parts Bool
+parts_off_ends = record { interior = true; boundary = false; exterior = true }
+
 abbrev pub is_odd_end : Outline → Point → Bool
 is_odd_end o p = is_odd (count_by (λ v. is_at v p) o.ends.items)
 

@@ -112,6 +112,48 @@ pub fn part_on_edge(own: &IndexedOutline, p: &Place) -> Part
     }
 }
 
+/// Whether each entry of a row is at least an extent in which a point of polylines can lie that is
+/// no end of them, as the point isn't.
+fn is_shown_off_ends(row: &Parts<Extent>, other: &IndexedOutline, p: &Place, extent: Extent) -> bool
+    ensures { let part = outline_part other.now (point_of p.now) in
+        IsTrue result → rank extent ≤ rank (pick part row.now) }
+{
+    if other.outline().kind != Kind::Lines {
+        return false;
+    }
+    let parts = Parts {
+        interior: true,
+        boundary: false,
+        exterior: true,
+    };
+    if are_shown(row, &parts, extent) {
+        !is_odd_end(other, p)
+    } else {
+        false
+    }
+}
+
+/// Whether a matrix has an extent where a point lies of which one part is known, in whichever part
+/// of the other geometry it is.
+pub fn is_place_shown(
+    matrix: &Matrix,
+    part: Part,
+    other: &IndexedOutline,
+    p: &Place,
+    extent: Extent,
+) -> bool
+    ensures { let second = outline_part other.now (point_of p.now) in
+        IsTrue result → rank extent ≤ rank (entry matrix.now part second) }
+{
+    let row = row_of(matrix, part);
+    let kind = other.outline().kind;
+    if are_shown(&row, &all_parts(kind), extent) {
+        true
+    } else {
+        is_shown_off_ends(&row, other, p, extent)
+    }
+}
+
 /// Whether a matrix includes the line on which a point of an edge lies, of which one part is known.
 fn is_line_shown(
     matrix: &Matrix,
@@ -125,11 +167,10 @@ fn is_line_shown(
     ensures { let second = outline_part other.now (point_of p.now) in
         IsTrue result → 2 ≤ rank (entry matrix.now part second) }
 {
-    let row = row_of(matrix, part);
-    let kind = other.outline().kind;
-    if are_shown(&row, &all_parts(kind), Extent::Line) {
+    if is_place_shown(matrix, part, other, p, Extent::Line) {
         true
     } else if course.is_apart {
+        let row = row_of(matrix, part);
         are_shown(&row, &rest_parts(other, p), Extent::Line)
     } else {
         false

@@ -1,15 +1,15 @@
-use Rattle.std.proofs.Common.{refl, sym}
+use Rattle.std.proofs.Common.{sym}
 use Rattle.plane_core.specs.Places.{point_of}
-use Rattle.plane_core.specs.PlaneMatrices.{pick}
 use Rattle.edge_index_core.proofs.TreeLemmas.{place_wide}
-use Rattle.shown_core.proofs.ShownLemmas.{place_shown, place_standing}
+use Rattle.noding_core.specs.Growth.{mark_in}
+use Rattle.noding_core.proofs.GrowthLemmas.{grown_none}
+use Rattle.shown_core.proofs.ShownLemmas.{place_standing}
 use Rattle.arrangement_core.proofs.WalkLemmas.{part_lies_off}
 use Rattle.arrangement_core.proofs.walk.add_off.Goals as goal
 
-pub returns-then-is_point_shown-clause-grown : goal.returns-then-is_point_shown-clause-grown
-returns-then-is_point_shown-clause-grown c =
-    place_shown c.args.walk.matrix c.args.part c.args.pair.now.second.now (point_of c.args.p.now) (pick c.args.part c.args.walk.matrix.rows) refl
-    (c.is_point_shown.ensures c.if-is_point_shown.true)
+pub returns-then-is_place_shown-clause-grown : goal.returns-then-is_place_shown-clause-grown
+returns-then-is_place_shown-clause-grown c =
+    grown_none (mark_in c.args.part c.args.pair.now.second.now (point_of c.args.p.now)) c.args.walk.matrix (c.is_place_shown.ensures c.if-is_place_shown.true)
 
 pub returns-clause-grown : goal.returns-clause-grown
 returns-clause-grown c = place_standing c.args.pair.now.second.now (point_of c.args.p.now) c.args.part _ _ _ c.standing_of-standing.ensures.part c.raised-matrix.ensures
