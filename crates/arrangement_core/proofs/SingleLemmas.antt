@@ -1,6 +1,6 @@
 -- The nodes of an edge among all single points, by those that may be on it, and edges that have no
 -- single point on them.
-use Rattle.std.proofs.Common.{◌≡◌, ◌<◌, ◌⊎◌, inl, inr, arith, sym, subst, ap, ◌∙◌, true, false, suc, List, [], ◌∷◌, ◌++◌}
+use Rattle.std.proofs.Common.{◌≡◌, ◌<◌, inl, inr, arith, sym, subst, ap, ◌∙◌, true, false, suc, List, [], ◌∷◌, ◌++◌}
 use Rattle.std.specs.Prelude.{Bool, if◌then◌else◌}
 use Rattle.std.specs.List.{Contains, list_any}
 use Rattle.std.proofs.lemmas.List.Elements.{Contains-append_cases, Contains-append_left, Contains-append_right}

@@ -1,4 +1,3 @@
-use Rattle.relation_core.specs.declared.extent.Extent.TheVariants.{Point as Dot}
 use Rattle.plane_core.specs.Places.{point_of}
 use Rattle.noding_core.specs.Growth.{mark_in}
 use Rattle.noding_core.proofs.GrowthLemmas.{grown_none}

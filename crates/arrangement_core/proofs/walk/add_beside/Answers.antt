@@ -1,5 +1,4 @@
-use Rattle.std.proofs.Common.{◌≡◌, rules, sym}
-use Rattle.plane_core.specs.declared.outline.Kind.TheVariants.{Lines as Polylines}
+use Rattle.std.proofs.Common.{sym}
 use Rattle.plane_core.specs.Places.{point_of}
 use Rattle.shown_core.proofs.ShownLemmas.{place_standing}
 use Rattle.arrangement_core.proofs.WalkLemmas.{lines_off}
