@@ -6,7 +6,7 @@ use Rattle.layer_core.specs.declared.id.Id.{Id}
 use Rattle.layer_edit_core.specs.RisingIds.{AreApart, ComesAfter, place_and_number}
 use Rattle.layer_edit_core.proofs.IdLemmas.{InsertsId, inserts_last, inserts_sooner, inserts_later, lookup-missing, no_others, after_list}
 use Rattle.layer_edit_core.proofs.ids.Ids.insert.Goals as goal
-use Rattle.layer_edit_core.proofs.ids.Ids.insert.Goals.{else-is_empty-via-then-is_empty+else-comes_after, else-is_empty-via-else-is_empty}
+use Rattle.layer_edit_core.proofs.ids.Ids.insert.Goals.{In_ok-push, Joined-id, After-place_behind-place, else-is_empty-via-then-is_empty+else-comes_after, else-is_empty-via-else-is_empty}
 
 -- an id that comes after all
 last : (xs ys xs' : List (Id × Option ℕ)) (k : Id) (v : Option ℕ) → AreApart xs ys → length ys ≡ 0 → ComesAfter xs (id_bytes k)
@@ -21,20 +21,24 @@ returns-in_err-push-clause-absent c =
     let absent : lookup (id_eq c.args.id) c.args.self.now.entries ≡ None = rw (← c.self.view_is) (sym new.before) in
     search rules
 
+pushed : (c : In_ok-push) → InsertsId c.self.inside.rising.items c.self.inside.others.entries c.args.id c.args.number c.push.new.self.items c.self.inside.others.entries
+    (length c.self.inside.rising.items) None
+pushed c = last _ _ _ c.args.id c.args.number c.self.invariant (search rules) (search rules) c.in_ok-push.ensures.items
+
 pub invariant_of-self-then-comes_after : goal.invariant_of-self-then-comes_after
-invariant_of-self-then-comes_after c = (last _ _ _ c.args.id c.args.number c.self.invariant (search rules) (search rules) c.in_ok-push.ensures.items).apart
+invariant_of-self-then-comes_after c = (pushed c).apart
 
 pub returns-then-comes_after-clause-before : goal.returns-then-comes_after-clause-before
 returns-then-comes_after-clause-before c =
-    let new = last _ _ _ c.args.id c.args.number c.self.invariant (search rules) (search rules) c.in_ok-push.ensures.items in
+    let new = pushed c in
     let place : c.len-place.result ≡ length c.self.inside.rising.items = search rules in
     rw (← c.self.view_is) (λ i. ((place ∙ new.index) i, new.before i))
 
 pub returns-then-comes_after-clause-after : goal.returns-then-comes_after-clause-after
-returns-then-comes_after-clause-after c = rw (← c.self.view_is) (last _ _ _ c.args.id c.args.number c.self.invariant (search rules) (search rules) c.in_ok-push.ensures.items).after
+returns-then-comes_after-clause-after c = rw (← c.self.view_is) (pushed c).after
 
 pub returns-then-comes_after-clause-unique : goal.returns-then-comes_after-clause-unique
-returns-then-comes_after-clause-unique c = (last _ _ _ c.args.id c.args.number c.self.invariant (search rules) (search rules) c.in_ok-push.ensures.items).apart.distinct
+returns-then-comes_after-clause-unique c = (pushed c).apart.distinct
 
 -- an id of the list
 listed : (xs ys : List (Id × Option ℕ)) (k : Id) (v : Option ℕ) → AreApart xs ys → (i : ℕ) (e : Id × Option ℕ) (written before : Option ℕ)
@@ -42,23 +46,23 @@ listed : (xs ys : List (Id × Option ℕ)) (k : Id) (v : Option ℕ) → AreApar
     → InsertsId xs ys k v (set xs i (e.0, written)) ys i (Some before)
 listed xs ys k v apart i e written before found is new old = rw (new, old) (inserts_sooner xs ys k v apart i e found is)
 
+renumbered : (c : Joined-id) → InsertsId c.self.inside.rising.items c.self.inside.others.entries c.args.id c.args.number
+    (set c.self.inside.rising.items c.in-Some.place (c.index_mut-entry.result.now.0, c.replace-before.new.dest)) c.self.inside.others.entries c.in-Some.place
+    (Some c.replace-before.result)
+renumbered c = listed _ _ c.args.id c.args.number c.self.invariant c.in-Some.place c.index_mut-entry.result.now _ _ (search rules) c.index_mut-entry.ensures.value
+    c.replace-before.ensures.after c.replace-before.ensures.value
+
 pub invariant_of-self-in-Some : goal.invariant_of-self-in-Some
-invariant_of-self-in-Some c = (listed _ _ c.args.id c.args.number c.self.invariant c.in-Some.place c.index_mut-entry.result.now _ _ (search rules) c.index_mut-entry.ensures.value
-    c.replace-before.ensures.after c.replace-before.ensures.value).apart
+invariant_of-self-in-Some c = (renumbered c).apart
 
 pub returns-in-Some-clause-before : goal.returns-in-Some-clause-before
-returns-in-Some-clause-before c =
-    let new = listed _ _ c.args.id c.args.number c.self.invariant c.in-Some.place c.index_mut-entry.result.now _ _ (search rules) c.index_mut-entry.ensures.value
-    c.replace-before.ensures.after c.replace-before.ensures.value in
-    rw (← c.self.view_is) (λ i. (new.index i, new.before i))
+returns-in-Some-clause-before c = let new = renumbered c in rw (← c.self.view_is) (λ i. (new.index i, new.before i))
 
 pub returns-in-Some-clause-after : goal.returns-in-Some-clause-after
-returns-in-Some-clause-after c = rw (← c.self.view_is) (listed _ _ c.args.id c.args.number c.self.invariant c.in-Some.place c.index_mut-entry.result.now _ _ (search rules) c.index_mut-entry.ensures.value
-    c.replace-before.ensures.after c.replace-before.ensures.value).after
+returns-in-Some-clause-after c = rw (← c.self.view_is) (renumbered c).after
 
 pub returns-in-Some-clause-unique : goal.returns-in-Some-clause-unique
-returns-in-Some-clause-unique c = (listed _ _ c.args.id c.args.number c.self.invariant c.in-Some.place c.index_mut-entry.result.now _ _ (search rules) c.index_mut-entry.ensures.value
-    c.replace-before.ensures.after c.replace-before.ensures.value).apart.distinct
+returns-in-Some-clause-unique c = (renumbered c).apart.distinct
 
 -- an id that is refused
 pub returns-in_err-place-clause-absent : goal.returns-in_err-place-clause-absent
@@ -87,18 +91,21 @@ other : (xs ys ys' : List (Id × Option ℕ)) (k : Id) (v : Option ℕ) → AreA
 other xs ys ys' k v apart index before missing after old =
     inserts_later xs ys k v apart ys' index before missing after (ap (λ r. r.0) old) (ap (λ r. r.1) old)
 
+behind : (c : After-place_behind-place) → InsertsId c.self.inside.rising.items c.self.inside.others.entries c.args.id c.args.number c.self.inside.rising.items
+    c.insert_other.new.others.entries (length c.self.inside.rising.items + c.in_ok-place.place) c.in_ok-place.before
+behind c = let done = c.in_ok-place.ensures in other _ _ _ c.args.id c.args.number c.self.invariant _ _ (search rules) done.after done.before
+
 pub invariant_of-self-2 : goal.invariant_of-self-2
-invariant_of-self-2 c = let done = c.in_ok-place.ensures in (other _ _ _ c.args.id c.args.number c.self.invariant _ _ (search rules) done.after done.before).apart
+invariant_of-self-2 c = (behind c).apart
 
 pub returns-clause-before : goal.returns-clause-before
 returns-clause-before c =
-    let done = c.in_ok-place.ensures in
-    let new = other _ _ _ c.args.id c.args.number c.self.invariant _ _ (search rules) done.after done.before in
+    let new = behind c in
     let place : c.place_behind-place.result ≡ length c.self.inside.rising.items + c.in_ok-place.place = search rules in
     rw (← c.self.view_is) (λ i. ((place ∙ new.index) i, new.before i))
 
 pub returns-clause-after : goal.returns-clause-after
-returns-clause-after c = let done = c.in_ok-place.ensures in rw (← c.self.view_is) (other _ _ _ c.args.id c.args.number c.self.invariant _ _ (search rules) done.after done.before).after
+returns-clause-after c = rw (← c.self.view_is) (behind c).after
 
 pub returns-clause-unique : goal.returns-clause-unique
-returns-clause-unique c = let done = c.in_ok-place.ensures in (other _ _ _ c.args.id c.args.number c.self.invariant _ _ (search rules) done.after done.before).apart.distinct
+returns-clause-unique c = (behind c).apart.distinct
