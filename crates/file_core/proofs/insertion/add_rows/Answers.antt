@@ -1,6 +1,6 @@
 use Rattle.std.proofs.Common.{◌∙◌, ◌+◌, ap, arith, length}
 use Rattle.std.specs.Vec.Iter.{into_iter_items}
-use Rattle.std.proofs.lemmas.List.Elements.{All-tail}
+use Rattle.std.proofs.lemmas.List.Elements.{All-head, All-tail}
 use Rattle.std.proofs.lemmas.Result.{err_from_is_err_and}
 use Rattle.file_core.specs.Batches.{if_loaded, with_rows}
 use Rattle.row_core.specs.LayerRows.{HasId}
@@ -8,6 +8,9 @@ use Rattle.row_core.specs.LayerRows.{content_of}
 use Rattle.file_core.specs.SkippedRows.{loaded_of, rows_in}
 use Rattle.file_core.proofs.LoadedLemmas.{loaded_with-next}
 use Rattle.file_core.proofs.insertion.add_rows.Goals as goal
+
+pub add_row-requires-clause-id : goal.add_row-requires-clause-id
+add_row-requires-clause-id g c = All-head HasId c.in-Some.row (into_iter_items c.next.new.self) (rw c.in-Some.ensures.steps.0 at c.loop-row.invariant.ids)
 
 pub add_row-requires-clause-few : goal.add_row-requires-clause-few
 add_row-requires-clause-few g c = omega (arith, c.loop-row.invariant.few, ap length c.in-Some.ensures.steps.0)
