@@ -10,7 +10,7 @@ use std::alloc::AllocError;
 use wkt_core::Scale;
 
 /// The distance of the shapes of a match, rounded to the nearest unit of a scale.
-#[derive(Clone, Copy, PartialEq, Eq)]
+#[derive(Clone, Copy)]
 pub struct DistanceField {
     pub scale: Scale,
 }

@@ -7,7 +7,7 @@ use std::alloc::{AllocError, Global};
 
 /// The property of a geometry that has improper rings
 /// ([`ImproperRings`](run_core::ImproperRings)).
-#[derive(Clone, Copy, PartialEq, Eq)]
+#[derive(Clone, Copy)]
 pub(crate) struct GrownImproper {
     /// The rule by which geometries were read.
     pub(crate) rings: Rings,

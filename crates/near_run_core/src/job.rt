@@ -7,7 +7,7 @@ use plane_core::Rings;
 use wkt_core::Scale;
 
 /// A join of two layers of boxes by distance, after edits.
-#[derive(Clone, Copy, PartialEq, Eq)]
+#[derive(Clone, Copy)]
 pub struct NearJob {
     /// The number of decimals that coordinates of the layers and the edits may have, and distances
     /// in the report.
@@ -20,7 +20,7 @@ pub struct NearJob {
 }
 
 /// The same of two layers of any geometry.
-#[derive(Clone, Copy, PartialEq, Eq)]
+#[derive(Clone, Copy)]
 pub struct AnyNearJob {
     pub near: NearJob,
     /// The rule for rings.
@@ -29,7 +29,7 @@ pub struct AnyNearJob {
 
 /// A search for the features of a layer of boxes that are nearest to each feature of another, after
 /// edits.
-#[derive(Clone, Copy, PartialEq, Eq)]
+#[derive(Clone, Copy)]
 pub struct NearestJob {
     /// The number of decimals that coordinates of the layers and the edits may have, and distances
     /// in the report.
@@ -42,7 +42,7 @@ pub struct NearestJob {
 }
 
 /// The same of two layers of any geometry.
-#[derive(Clone, Copy, PartialEq, Eq)]
+#[derive(Clone, Copy)]
 pub struct AnyNearestJob {
     pub nearest: NearestJob,
     /// The rule for rings.
