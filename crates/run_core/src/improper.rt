@@ -11,7 +11,7 @@ use std::alloc::{AllocError, Global};
 
 /// The property of a geometry that the rule by which it was read takes, and the rule for proper
 /// rings refuses: its rings cross or run along each other or themselves, as a flat ring does.
-#[derive(Clone, Copy, PartialEq, Eq)]
+#[derive(Clone, Copy)]
 pub struct ImproperRings {
     /// The rule by which geometries were read.
     pub rings: Rings,

@@ -27,7 +27,7 @@ pub trait Marks<G: Geometry> {
 }
 
 /// The property that no geometry has.
-#[derive(Clone, Copy, PartialEq, Eq)]
+#[derive(Clone, Copy)]
 pub struct Unmarked;
 
 impl<G: Geometry> Marks<G> for Unmarked {
@@ -43,7 +43,7 @@ impl<G: Geometry> Marks<G> for Unmarked {
 }
 
 /// The numbers of rows of a left and of a right file, from 1, after the header, in file order.
-#[derive(Drop, PartialEq, Eq)]
+#[derive(Drop)]
 pub struct MarkedRows {
     pub left: Vec<u32>,
     pub right: Vec<u32>,
