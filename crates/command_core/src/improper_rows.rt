@@ -11,7 +11,7 @@ use run_core::MarkedRows;
 use std::alloc::Global;
 
 /// The rows of a command's layers whose geometries have improper rings, by their numbers.
-#[derive(Drop, PartialEq, Eq)]
+#[derive(Drop)]
 pub struct ImproperRows {
     /// Those of the left and of the right file.
     pub layers: MarkedRows,

@@ -12,14 +12,14 @@ use report_core::{ShortText, Sink, WriteFailed};
 use std::alloc::Global;
 
 /// How many rows of the left and of the right file were skipped.
-#[derive(Clone, Copy, PartialEq, Eq)]
+#[derive(Clone, Copy)]
 pub struct SkippedCounts {
     pub left: usize,
     pub right: usize,
 }
 
 /// What there is to say of a command that succeeded.
-#[derive(Drop, PartialEq, Eq)]
+#[derive(Drop)]
 pub struct Notes {
     /// Which of the geometries of `relate` have improper rings.
     pub improper: Improper,
