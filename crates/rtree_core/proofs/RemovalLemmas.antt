@@ -122,25 +122,29 @@ other_entry root leaf x e es is one held there differs h =
     let equal : eq-value.it x e ≡ true = ap (λ z. eq-value.it x z) same ∙ entry_itself x in
     false≢true (ap not (sym equal) ∙ differs)
 
+not_false : (t : Bool) → not t ≡ false → t ≡ true
+not_false true h = refl
+not_false false h = sym h
+
 -- the one entry of a root that is a leaf is this one, or another
 pub only_there : (root : Option Node) (leaf : Node) (x e : Entry) (es : List Entry) →
     root ≡ Some leaf →
     IsSomeAnd root (λ n. IsLawfulAt 0 n × (size_of n ≡ 1)) →
     es ≡ entries_of leaf →
     x ≡ get_or es 0 x →
-    eq-value.it x e ≡ true →
+    not (eq-value.it x e) ≡ false →
     entries_in root ≡ e ∷ []
-only_there root leaf x e es is one held there same = the_entry root leaf x e es is (rw is at one) held there (entry_same x e same)
+only_there root leaf x e es is one held there same = the_entry root leaf x e es is (rw is at one) held there (entry_same x e (not_false _ same))
 
 pub other_there : (root : Option Node) (leaf : Node) (x e : Entry) (es : List Entry) →
     root ≡ Some leaf →
     IsSomeAnd root (λ n. IsLawfulAt 0 n × (size_of n ≡ 1)) →
     es ≡ entries_of leaf →
     x ≡ get_or es 0 x →
-    eq-value.it x e ≡ false →
+    not (eq-value.it x e) ≡ true →
     IsTrue false ↔ Contains (entries_in root) e
 other_there root leaf x e es is one held there other =
-    (λ h. absurd (false≢true h), λ h. absurd (other_entry root leaf x e es is (rw is at one) held there (ap not other) h))
+    (λ h. absurd (false≢true h), λ h. absurd (other_entry root leaf x e es is (rw is at one) held there other h))
 
 pub not_there : (es : List Entry) (e : Entry) (p : ℕ) (x : Entry) → p < length es → x ≡ get_or es p x → eq-value.it x e ≡ false → get_or es p e ≡ e → ⊥
 not_there es e p x lt at differ there =

@@ -23,7 +23,7 @@ use Rattle.std.specs.declared.vec.Vec.{Vec}
 use Rattle.std.proofs.lemmas.List.Elements.{All-get_or}
 use Rattle.rtree_core.specs.declared.node.Below.{out-Below}
 use Rattle.rtree_core.specs.declared.node.Below.TheVariants.{outs-Children, Children as made_children}
-use Rattle.rtree_core.proofs.NodeLemmas.{level-le-top, children_lawful, level_inner, top_level}
+use Rattle.rtree_core.proofs.NodeLemmas.{children_lawful, level_inner, top_level}
 use Rattle.rtree_core.specs.Nodes.{entries_of, children_of, level_of, IsLawful, IsLawfulAt}
 use Rattle.rtree_core.specs.Trees.{entries_in, has_number}
 use Rattle.rtree_core.specs.Windows.{AllMet, AllFound, Picks, none, met, missed, Adds}
@@ -204,13 +204,9 @@ module _ (w : Shape) (es : List Entry) (found sorted : List ℕ) (adds : Adds w 
 pub item_lawful : (xs : List Node) (i : ℕ) (x : Node) → All IsLawful xs → i < length xs → x ≡ get_or xs i x → IsLawful x
 item_lawful xs i x all lt at = subst IsLawful (sym at) (All-get_or IsLawful xs i x lt all)
 
-pub ruleset child_step = (level-le-top, item_lawful)
-
 -- the children of a lawful node are lawful, given its list
 pub list_lawful : (n : Node) (v : Vec Node Global) (xs : List Node) → n.below ≡ made_children v → xs ≡ v.items → IsLawful n → All IsLawful xs
 list_lawful n v xs is read lawful = rw read (children_lawful n v is lawful)
 
 pub list_level : (n : Node) (v : Vec Node Global) (xs : List Node) → n.below ≡ made_children v → xs ≡ v.items → top_level xs + 1 ≡ level_of n
 list_level n v xs is read = rw read (sym (level_inner n v (ap out-Below is ∙ outs-Children v)))
-
-pub ruleset list_step = (list_lawful, list_level)

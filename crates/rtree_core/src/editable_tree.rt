@@ -82,7 +82,6 @@ impl EditableTree {
     }
 
     /// Inserts an item into a node of a level of the tree.
-    #[tactic(auto, using(crate::proofs::Rules::insert))]
     pub(crate) fn insert<T: Insertable>(&mut self, item: T, level: u32)
         requires sound { IsSound self.old }
         requires can_take { CanTake 1 self.old }

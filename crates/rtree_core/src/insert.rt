@@ -57,7 +57,6 @@ impl Insertable for Node {
 }
 
 /// Appends an entry to a leaf's list, and returns the leaf's second half if it was split.
-#[tactic(auto, using(crate::proofs::Rules::add_entry))]
 fn add_entry(
     cover: &mut Shape,
     entries: &mut Vec<Entry>,
@@ -74,7 +73,6 @@ fn add_entry(
 }
 
 /// Appends a node to its parent's list, and returns the parent's second half if it was split.
-#[tactic(auto, using(crate::proofs::Rules::add_child))]
 fn add_child(
     cover: &mut Shape,
     children: &mut Vec<Node>,

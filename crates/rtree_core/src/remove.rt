@@ -22,7 +22,6 @@ impl EditableTree {
     ghost use Rattle.rtree_core.specs.EditableTrees.{IsRooted, CanRemove};
 
     /// Removes an entry, and returns whether it was there.
-    #[tactic(auto, using(crate::proofs::Rules::remove))]
     pub(crate) fn remove(&mut self, entry: &Entry, aside: &mut Vec<Node>) -> bool
         requires { CanRemove self.old aside.old }
         ensures rooted { IsRooted self.new }
@@ -48,7 +47,6 @@ impl EditableTree {
     }
 
     /// Empties a tree whose only entry is this one.
-    #[tactic(auto, using(crate::proofs::Rules::remove_last))]
     fn remove_last(&mut self, entry: &Entry) -> bool
         requires leaf { IsSomeAnd self.old.root (λ n. IsLawfulAt 0 n × (size_of n ≡ 1)) }
         ensures held { IsTrue result ↔ Contains (entries_in self.old.root) entry.now }

@@ -85,7 +85,6 @@ impl RTree {
     /// Packs entries into the same tree as `pack` does, with at most `threads` threads.
     ///
     /// 0 and 1 start no thread. On an error, the entries are dropped.
-    #[tactic(auto, using(crate::proofs::PackLemmas::list_tiled))]
     pub fn pack_by_threads<R: Threads + Sync>(
         alloc: Global,
         mut entries: Vec<Entry>,

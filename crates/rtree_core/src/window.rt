@@ -35,7 +35,6 @@ impl Window for Shape {
 
 /// Adds the numbers of the entries below a node that meet the window, from left to right.
 #[cycle(window)]
-#[tactic(auto, using(crate::proofs::WindowLemmas::list_step))]
 pub(crate) fn collect<W: Window>(
     node: &Node,
     window: &W,
@@ -53,7 +52,6 @@ pub(crate) fn collect<W: Window>(
 
 /// Descends into the children whose covers meet the window.
 #[cycle(window)]
-#[tactic(auto, using(crate::proofs::WindowLemmas::child_step))]
 fn collect_children<W: Window>(
     children: &[Node],
     window: &W,
@@ -74,7 +72,6 @@ fn collect_children<W: Window>(
 }
 
 /// Adds the numbers of those entries that meet the window.
-#[tactic(auto, using(crate::proofs::WindowLemmas::adds_none))]
 fn collect_entries<W: Window>(
     entries: &[Entry],
     window: &W,
