@@ -145,12 +145,12 @@ def group(options: Namespace, title: str, rows: list[Row]) -> str:
     if options.processor:
         return f"""## {title}
 
-Seconds of the processor over all threads from the two files to the written pairs, in brackets how many times as many as rjoin, and the most memory in megabytes:
+Seconds of the processor over all threads from the two files to the written pairs, in brackets how many times as many as rjoin, below 1 where rjoin takes more, and the most memory in megabytes:
 
 {work}"""  # noqa: E501
     return f"""## {title}
 
-Seconds from the two files to the written pairs by {options.workers} threads, and in brackets how many times as long as rjoin:
+Seconds from the two files to the written pairs by {options.workers} threads, and in brackets how many times as long as rjoin, below 1 where rjoin takes longer:
 
 {table(peers, rows, lambda row: cost.best_by_peer(row.runs))}
 
