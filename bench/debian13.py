@@ -45,8 +45,9 @@ def system_in(cache: Path) -> Path:
     for folder in (part, system):
         shutil.rmtree(folder, ignore_errors=True)
     part.mkdir(parents=True)
-    ended = subprocess.run(["mmdebstrap", "--variant=apt", f"--include={PACKAGES}", "trixie", part],
-                           capture_output=True, text=True, check=False)
+    # what it mounts is gone with it, also where it is stopped
+    words = ["unshare", "--mount", "mmdebstrap", "--variant=apt", f"--include={PACKAGES}", "trixie", str(part)]
+    ended = subprocess.run(words, capture_output=True, text=True, check=False)
     if ended.returncode:
         shutil.rmtree(part, ignore_errors=True)
         raise Lacking(" ".join(["mmdebstrap failed:", *ended.stderr.splitlines()[-1:]]))
