@@ -3,8 +3,10 @@ from __future__ import annotations
 
 import os
 import signal
+import time
+from contextlib import suppress
 from pathlib import Path
-from typing import Iterator
+from typing import Any, Iterator
 
 import layers
 import psutil
@@ -80,15 +82,27 @@ def test_signals_that_are_ignored() -> None:
     assert signal.getsignal(signal.SIGTERM) is signal.SIG_DFL
 
 
+def held_runs(process: Any) -> list[psutil.Process]:
+    """The runs that a command has started, once there are some, and all are in groups of their own:
+    a terminal's signals go to the command's group."""
+    end = time.monotonic() + WAIT
+    while time.monotonic() < end:
+        runs: list[psutil.Process] = psutil.Process(process.pid).children(recursive=True)
+        with suppress(psutil.NoSuchProcess, ProcessLookupError):
+            groups = {os.getpgid(run.pid) for run in runs if run.ppid() == process.pid}
+            if groups and os.getpgid(process.pid) not in groups:
+                return runs
+        time.sleep(0.01)
+    pytest.fail("no run is in a group of its own")
+
+
 def test_what_interrupts_leave_no_run_going_on(
     tools: Tools, pair: tuple[Path, Path], held: str
 ) -> None:
     more = ["--tiles", "24", "--program", held]
     with running_group(tools.local_command(*pair, "intersects", *more)) as process:
         wait_for(tools, "pairs-*.rows", process)
-        runs = psutil.Process(process.pid).children(recursive=True)
-        groups = {os.getpgid(run.pid) for run in runs if run.ppid() == process.pid}
-        assert groups and os.getpgid(process.pid) not in groups  # which the terminal's signals get
+        runs = held_runs(process)
         process.send_signal(signal.SIGTERM)
         process.communicate(timeout=WAIT)
     assert [run for run in runs if run.is_running()] == []
