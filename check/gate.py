@@ -93,7 +93,7 @@ PARTS = (
     Part("packages", ("check/install.py",), 20, may_be_skipped=True),
     Part("proofs", ("check/proofs.py",), 90, whole=("check/proofs.py", "--all")),
     Part("budgets", ("check/budgets.py",), 2),
-    Part("tests", ("check/tests.py",), 30),
+    Part("tests", ("check/tests.py",), 45),
     Part("faults", ("check/faults.py",), 2),
     Part("definitions", ("check/definitions.py", "--check"), 2),
     Part("architecture", ("check/architecture.py", "--check"), 2),

@@ -8,7 +8,7 @@
     check/tests.py --keep FILE   the same, and a program of the tests is kept as FILE, in which check/refusals.py can
                                  refuse allocations
 
-The programs of the tests stay in out/tests/, where check/refusals.py takes them. A test may take five minutes. The
+The programs of the tests stay in out/tests/, where check/refusals.py takes them. A test may take ten minutes. The
 status is 0 where each test passed, and each program wrote what its file stdout has. The last line counts.
 """
 import os
@@ -31,8 +31,8 @@ from toolchain import toolchain  # noqa: E402
 KEPT = ROOT / "out/tests"
 # What a run takes at most, in KiB.
 MEMORY = 2 << 20
-# How long a test may take: some join a thousand times, which with these checks takes a minute on a busy machine.
-SECONDS = "300"
+# How long a test may take: some join a thousand times, which with these checks takes minutes.
+SECONDS = "600"
 # The calls that check/refuse.c stands before.
 WRAPPED = ("malloc", "calloc", "realloc", "memalign", "aligned_alloc", "posix_memalign")
 # Links as it is asked, and once more with what refuses allocations. The last -o counts.
