@@ -1,5 +1,5 @@
-//! What all joins by workers share: how a join is run and which output it makes, pairs of numbers in
-//! ascending order, and which features occur in several pairs.
+//! What all joins by workers share: how a join is run and which output it makes, pairs of numbers
+//! in ascending order, and which features occur in several pairs.
 #![tactic(auto)]
 
 mod limits;
