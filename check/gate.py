@@ -103,7 +103,7 @@ PARTS = (
     Part("tested-mutants", ("check/tested_mutants.py", "--changed"), 45, Lane.HEAVY,
          whole=("check/tested_mutants.py",)),
     Part("stored-runs", ("check/stored_runs.py",), 15, Lane.LIGHT),
-    Part("refusals", ("check/refusals.py",), 80, Lane.LIGHT),
+    Part("refusals", ("check/refusals.py",), 60, Lane.LIGHT, whole=("check/refusals.py", "--all")),
     Part("reference", ("check/reference.sh",), 15, Lane.LIGHT, whole=("check/reference.sh", "--all")),
     Part("any-joins", ("check/any_joins.py",), 20, Lane.LIGHT),
     Part("smoke", ("bench/smoke", str(PROGRAM)), 10, Lane.LIGHT),

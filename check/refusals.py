@@ -2,13 +2,14 @@
 """Refuses memory, files, reads, writes and threads to the program, and memory to the tests as check/tests.py has built
 them, gives the program hostile files and outputs, and sees that each run ends as it may.
 
-    check/refusals.py            all of it; the last line counts runs
+    check/refusals.py            all but the tests of whole commands, which take most of the time
+    check/refusals.py --all      all of it
 
 Four parts. Of the crates NAME_tests, the tests that are named for refused memory are run with each allocation
 refused in turn, and have to pass. The program is run on the files of data/ with each allocation, opened file,
 read, write, start of a thread and random keys refused in turn, alone or with all that follow, and with each read
 and write cut short or interrupted. It is run once with each of a list of bad files, names and outputs. And how often
-it starts a thread, reads, writes, makes a long list longer, yields and waits is counted.
+it starts a thread, reads, writes, makes a long list longer, yields and waits is counted. The last line counts runs.
 
 A refused run may do as well as one that isn't refused. Else it ends with status 1 and its line, and has written
 nothing, or a beginning of the report where it is writing that failed. What ends by a signal, takes too long
@@ -35,6 +36,8 @@ SWEEPS = 5
 MOST_WRONG = 5
 # The tests as check/tests.py has built them, with what refuses memory linked in.
 TESTS = f"{ROOT}/out/tests/*_tests"
+# Those of whole commands, which have seven eighths of the time of all: the program is run with the same refusals.
+OF_COMMANDS = "command_tests"
 NAMED = re.compile(r"refused|growth|without_memory")
 STOPPED = b"test stopped at "
 NOBODY = 65534
@@ -173,10 +176,10 @@ def swept(it: Sweep) -> Tally:
     return tally
 
 
-def test_tasks(room: str) -> list[Sweep]:
+def test_tasks(room: str, is_all: bool) -> list[Sweep]:
     """The sweeps over the tests that are named for refused memory."""
     tasks = []
-    for built in sorted(glob(TESTS)):
+    for built in sorted(it for it in glob(TESTS) if is_all or os.path.basename(it) != OF_COMMANDS):
         program = shutil.copy(built, room)
         for name in re.findall(r"^(.*): test$", ran([program, "--list"]).output.decode(), re.MULTILINE):
             if NAMED.search(name):
@@ -635,7 +638,7 @@ def summed(tallies: list[Tally], what: str) -> Tally:
     return total
 
 
-def main() -> int:
+def main(words: list[str]) -> int:
     built = f"{ROOT}/crates/rjoin/out/rjoin"
     if not os.path.isfile(built) or not glob(TESTS):
         sys.exit("refusals: no program is built, or check/tests.py has left no tests to run")
@@ -643,7 +646,7 @@ def main() -> int:
         os.chmod(room, 0o755)
         shim, program = compiled(room), shutil.copy(built, room)
         write_files(room)
-        tests, lines = test_tasks(room), program_tasks(shim, program)
+        tests, lines = test_tasks(room, words == ["--all"]), program_tasks(shim, program)
         with ThreadPoolExecutor(len(os.sched_getaffinity(0))) as pool:
             done = list(pool.map(swept, [*tests, *lines]))
         done, refused = done[: len(tests)], done[len(tests):]
@@ -660,4 +663,4 @@ def main() -> int:
 
 
 if __name__ == "__main__":
-    sys.exit(main())
+    sys.exit(main(sys.argv[1:]))
