@@ -1,5 +1,5 @@
-"""What changed since a base commit, and by it which mutants the gate tries: those of what changed, and a tenth of all
-others, another tenth with each landing, so that ten landings try all.
+"""What changed since a base commit, and by it which mutants the gate tries: those of what changed, up to a limit, and a
+tenth of all others, another tenth with each landing, so that ten landings try all.
 
 The base is where this branch left GATE_BASE, else origin/HEAD, origin/main or origin/master. On that branch itself
 it is the last commit that was made more than three hours before this one, since what lands together is made in less.
@@ -26,6 +26,8 @@ BRANCHES = ("origin/HEAD", "origin/main", "origin/master")
 # The seconds between two commits by which they belong to two landings.
 PAUSE = 3 * 3600
 LOTS = 10
+# How many mutants of what changed are tried at most, so that a landing that touches most crates ends in time.
+MOST = 300
 # What no other crate sees of a source file beside the bodies of functions: comments, modules and what is imported.
 UNSEEN = re.compile(r"^ *//.*\n|^mod \w+;\n|^use [^;]*;\n|^\n", re.M)
 # An `impl` with all that stands in it.
@@ -133,7 +135,8 @@ class Changes:
 
 def chosen(every: list[str], of_all: Collection[str], touched: Callable[[Changes], set[str]]) -> tuple[list[str], str]:
     """Those of these mutants, each as CRATE/NAME, that are tried, and why: all where no base is known or where one of
-    the files changed that every verdict rests on, else those that changes have touched, and a tenth of the others."""
+    the files changed that every verdict rests on, else those that changes have touched, at most MOST, and a tenth of
+    the others."""
     changes = Changes()
     commit, why = changes.base
     if not commit:
@@ -143,5 +146,16 @@ def chosen(every: list[str], of_all: Collection[str], touched: Callable[[Changes
     if changed:
         return every, f"{' '.join(changed)} {since}"
     near, lot = touched(changes), (landings(commit) + 1) % LOTS
-    some = [it for it in every if it in near or zlib.crc32(it.encode()) % LOTS == lot]
-    return some, f"{len(near)} for what {since}; and of the others number {lot} of {LOTS} lots"
+    tried = nearest(near, changes)
+    some = [it for it in every if it in tried or zlib.crc32(it.encode()) % LOTS == lot]
+    return some, f"{len(tried)} of {len(near)} for what {since}; and of the others number {lot} of {LOTS} lots"
+
+
+def nearest(names: set[str], changes: Changes) -> set[str]:
+    """At most MOST of these mutants, first those whose own crate changed, and others with each base."""
+    crates = changes.crates()
+
+    def place(name: str) -> tuple[bool, int]:
+        return name.split("/")[0] not in crates, zlib.crc32(f"{name} {changes.base.commit}".encode())
+
+    return set(sorted(names, key=place)[:MOST])

@@ -263,6 +263,15 @@ class Budgets(unittest.TestCase):
     def test_a_crate_without_a_budget_fails(self) -> None:
         self.assertEqual(self.judged(50, new=1), (1, ["new"]))
 
+    def test_a_run_that_proved_nothing_anew_passes(self) -> None:
+        with tempfile.TemporaryDirectory() as room:
+            took, listed = Path(room, "times"), Path(room, "budgets.txt")
+            listed.write_text("one 7\n", encoding="utf-8")
+            with patch.multiple(budgets, TIMES=took, BUDGETS=listed, proved=lambda: ["one"]):
+                self.assertRaises(SystemExit, budgets.main, [])
+                took.write_text("", encoding="utf-8")
+                self.assertEqual(budgets.main([]), 0)
+
     def test_the_list_is_made_of_a_run_that_proved_all(self) -> None:
         with tempfile.TemporaryDirectory() as room:
             took, listed = Path(room, "times"), Path(room, "budgets.txt")
@@ -426,6 +435,14 @@ class Changed(unittest.TestCase):
         self.write("check/edits.py", "# newer\n")
         self.commit()
         self.assertEqual(self.chosen(), [["one", "two"]] * 2)
+
+    def test_a_large_landing_tries_first_what_changed_itself(self) -> None:
+        self.write("crates/two/src/lib.rt", "// newer\n")
+        self.commit()
+        names = [f"{crate}/{number}" for crate in ("one", "two") for number in range(9)]
+        with patch.object(changes, "MOST", 12):
+            tried = changes.chosen(names, (), lambda _: {*names})[0]
+        self.assertEqual((len(tried), sum(it.startswith("two") for it in tried)), (12, 9))
 
     def test_ten_landings_try_each_mutant_once(self) -> None:
         every = [f"one/{number}" for number in range(50)]
