@@ -1,8 +1,10 @@
 -- Joins two tables by rjoin in one transaction, which it leaves open. `rjoin-postgis` runs it by psql, in an empty
 -- folder, with the variables left, right (tables), left_id, right_id, left_geometry, right_geometry (columns or empty),
 -- left_columns, right_columns (JSON lists of columns to carry), left_prefix, right_prefix (of their names in the new
--- table), others (error, envelope, skip), rings (valid, even-odd), decimals (0 to 6, or empty), into and skipped (new
--- tables), command (of rjoin: join, near, nearest), distance and distance_decimals (a number and its decimals, 0 for
+-- table), left_where, right_where (conditions of rows that take part), geography (error, cast), others (error,
+-- envelope, skip), rings (valid, even-odd), decimals (0 to 6, or empty), into and skipped (new tables), append (whether
+-- they may be there), keeps_left (whether left rows without a partner are in the result), command (of rjoin: join,
+-- near, nearest), relation (empty for the others), distance and distance_decimals (a number and its decimals, 0 for
 -- none), alone (whether pairs have no matrix), and with RJOIN, RJOIN_COMMAND, RJOIN_CONDITION (a word), RJOIN_MORE
 -- (words without blanks) and RJOIN_WORKERS in the environment. At the end it writes a line `ready`.
 \set ON_ERROR_STOP on
@@ -52,14 +54,18 @@ create function pg_temp.rjoin_columns_of(source regclass, kind regtype, named te
     select array_agg(attname) from pg_attribute
     where attrelid = source and attnum > 0 and not attisdropped and atttypid = kind and named in ('', attname) $$;
 
--- The column that is named, or else the only one of type geometry.
-create function pg_temp.rjoin_geometry(source regclass, named text) returns name language plpgsql as $$
+-- The column that is named, or else the only one of type geometry, or of type geography where that is to be cast.
+create function pg_temp.rjoin_geometry(source regclass, named text, geography text) returns name language plpgsql as $$
 declare
     found name[] := pg_temp.rjoin_columns_of(source, 'geometry', named);
     others name[] := pg_temp.rjoin_columns_of(source, to_regtype('geography'), named);
 begin
-    if found is null and others is not null then
-        raise exception '%: the column % is of type geography: cast it to geometry in a view', source, others[1];
+    if found is null and cardinality(others) = 1 and geography = 'cast' then
+        raise warning '%: the column % is of type geography, and is joined in the plane of its degrees',
+            source, others[1];
+        found := others;
+    elsif found is null and others is not null and geography = 'error' then
+        raise exception '%: the column % is of type geography: choose --geography cast', source, others[1];
     elsif found is null and named <> '' then
         raise exception '% has no column % of type geometry', source, named;
     elsif cardinality(found) is distinct from 1 then
@@ -248,20 +254,18 @@ create function pg_temp.rjoin_decimals(number double precision) returns integer 
         else 7
     end $$;
 
--- The fewest decimals that write all coordinates of a geometry exactly, or 7: those at which its text is the one with
--- all digits.
-create function pg_temp.rjoin_decimals(shape geometry) returns integer language plpgsql immutable as $$
-declare whole text := ST_AsText(shape, 30);
+-- The fewest decimals that write all coordinates of a text with all digits, or 7: the most that one has behind its dot.
+-- A number near zero has an exponent.
+create function pg_temp.rjoin_decimals(wkt text) returns integer language plpgsql immutable as $$
+declare decimals integer := 0;
 begin
-    if ST_AsText(shape, 6) <> whole then
+    if strpos(wkt, 'e-') > 0 then
         return 7;
     end if;
-    for decimals in 0..5 loop
-        if ST_AsText(shape, decimals) = whole then
-            return decimals;
-        end if;
+    while decimals < 7 and wkt ~ ('\.[0-9]{' || decimals + 1 || '}') loop
+        decimals := decimals + 1;
     end loop;
-    return 6;
+    return decimals;
 end $$;
 
 -- The text of a box by its bounds. One that will be flat once it is rounded is a segment or a point.
@@ -292,49 +296,58 @@ begin
 end $$;
 
 -- Numbers the rows of a table into a temporary one, with id, bounds, number of decimals, the fault of those that aren't
--- read, `exact` of those that are, `has_box` of those whose bounds can be read, the shape of those that are read and
--- aren't boxes, and the columns to carry as c1, c2, ..
+-- read, `exact` of those that are, `has_box` of those whose bounds can be read, the text of those that are read and
+-- aren't boxes, and the columns to carry as c1, c2, .. A comment at the end of the condition of rows ends with its
+-- line.
 create function pg_temp.rjoin_read(source regclass, id name, geometry name, target name, decimals integer, rings text,
-    columns text[]) returns void language plpgsql as $$
+    columns text[], condition text) returns void language plpgsql as $$
 begin
     execute format('create temporary table %1$I on commit drop as
-        select row_number() over () as n, id, srid, fault, fault is null as exact, has_box, x1, y1, x2, y2,
-            case when fault is null and not is_box then shape end as shape,
+        select row_number() over () as n, id, srid, fault, fault is null as exact, has_box, x1, y1, x2, y2, wkt,
             case when not has_box then null
-                when fault is null and not is_box then pg_temp.rjoin_decimals(shape)
+                when wkt is not null then pg_temp.rjoin_decimals(wkt)
                 else greatest(pg_temp.rjoin_decimals(x1), pg_temp.rjoin_decimals(y1),
                               pg_temp.rjoin_decimals(x2), pg_temp.rjoin_decimals(y2)) end as decimals %7$s
         from (
-            select *, coalesce(coordinate_fault, case when not is_box then pg_temp.rjoin_fault(shape, %5$L, %6$L) end)
-                    as fault, x1 is not null and coordinate_fault is null as has_box
+            select *, case when fault is null and not is_box then pg_temp.rjoin_wkt(shape) end as wkt
             from (
-                select *, coordinate_fault is null and pg_temp.rjoin_is_box(shape) as is_box
+                select *, coalesce(coordinate_fault, case when not is_box
+                        then pg_temp.rjoin_fault(shape, %5$L, %6$L) end) as fault,
+                        x1 is not null and coordinate_fault is null as has_box
                 from (
-                    select *, pg_temp.rjoin_coordinate_fault(shape, x1, y1, x2, y2) as coordinate_fault
+                    select *, coordinate_fault is null and pg_temp.rjoin_is_box(shape) as is_box
                     from (
-                        select *, ST_SRID(shape) as srid, ST_XMin(shape) as x1, ST_YMin(shape) as y1,
-                            ST_XMax(shape) as x2, ST_YMax(shape) as y2
+                        select *, pg_temp.rjoin_coordinate_fault(shape, x1, y1, x2, y2) as coordinate_fault
                         from (
-                            select id, ST_Force2D(case when ST_IsCollection(shape)
-                                then pg_temp.rjoin_unpacked(shape) else shape end) as shape %7$s
+                            select *, ST_SRID(shape) as srid, ST_XMin(shape) as x1, ST_YMin(shape) as y1,
+                                ST_XMax(shape) as x2, ST_YMax(shape) as y2
                             from (
-                                select t.%2$I as id, case
-                                    when ST_NumGeometries(t.%3$I) = 1 then ST_GeometryN(t.%3$I, 1)
-                                    else t.%3$I end as shape %8$s
-                                from %4$s t
+                                select id, ST_Force2D(case when ST_IsCollection(shape)
+                                    then pg_temp.rjoin_unpacked(shape) else shape end) as shape %7$s
+                                from (
+                                    select t.%2$I as id, case
+                                        when ST_NumGeometries(t.%3$I::geometry) = 1
+                                            then ST_GeometryN(t.%3$I::geometry, 1)
+                                        else t.%3$I::geometry end as shape %8$s
+                                    from %4$s t
+                                    where (%9$s
+                                    )
+                                    offset 0
+                                ) one_part
                                 offset 0
-                            ) one_part
+                            ) unpacked
                             offset 0
-                        ) unpacked
+                        ) bounded
                         offset 0
-                    ) bounded
+                    ) in_range
                     offset 0
-                ) in_range
+                ) sorted
                 offset 0
-            ) sorted
+            ) judged
             offset 0
-        ) judged', target, id, geometry, source, decimals, rings,
-        pg_temp.rjoin_listed(columns, ', c%3$s', ''), pg_temp.rjoin_listed(columns, ', t.%1$I as c%3$s', ''));
+        ) printed', target, id, geometry, source, decimals, rings,
+        pg_temp.rjoin_listed(columns, ', c%3$s', ''), pg_temp.rjoin_listed(columns, ', t.%1$I as c%3$s', ''),
+        condition);
 end $$;
 
 -- Ends the run at the first row that isn't read, or takes envelopes; the rows that keep a fault are left out.
@@ -442,8 +455,7 @@ begin
         raise warning '%: rows with coordinates rounded to % decimals: %', source, scale, rounded;
     end if;
     execute format('create temporary view %1$I as
-        select n as id, case when shape is null then pg_temp.rjoin_wkt(x1, y1, x2, y2, %2$s)
-                             else pg_temp.rjoin_wkt(shape) end as wkt
+        select n as id, coalesce(wkt, pg_temp.rjoin_wkt(x1, y1, x2, y2, %2$s)) as wkt
         from %3$I where fault is null order by n', file, scale, target);
 end $$;
 
@@ -470,12 +482,27 @@ begin
     return (select string_agg(quote_ident(part), '.') from unnest(parts) part);
 end $$;
 
--- Creates a table. Its name may also be taken by a run that ends while this one waits for it.
-create function pg_temp.rjoin_create(name text, definition text) returns void language plpgsql as $$
+-- Creates a table, unless it is there and may be. Its name may also be taken by a run that ends while this one waits
+-- for it. The answer is whether the table is new.
+create function pg_temp.rjoin_create(name text, definition text, append boolean) returns boolean language plpgsql as $$
 begin
+    if append and to_regclass(name) is not null then
+        return false;
+    end if;
     execute format('create table %s %s', name, definition);
+    return true;
 exception when duplicate_table or duplicate_object or unique_violation then
     raise exception '% already exists', name;
+end $$;
+
+-- Ends the run where a row that is left out may be the partner of a left row without one.
+create function pg_temp.rjoin_check_partners(source regclass) returns void language plpgsql as $$
+declare left_out bigint := (select count(*) from rjoin_right where fault is not null);
+begin
+    if left_out > 0 then
+        raise exception '%: rows left out: %, each of which may be the partner of a left row without one; %',
+            source, left_out, 'correct them, or leave them out by --right-where';
+    end if;
 end $$;
 
 -- The name of a table with its schema: without it a temporary table of its name would go first.
@@ -489,8 +516,8 @@ select :'left'::regclass as left, :'right'::regclass as right,
 select pg_temp.rjoin_new_name(:'into', '--into') as into,
     case when :'lists' then pg_temp.rjoin_new_name(:'skipped', '--skipped') end as skipped,
     pg_temp.rjoin_id(:'left', :'left_id') as left_id, pg_temp.rjoin_id(:'right', :'right_id') as right_id,
-    pg_temp.rjoin_geometry(:'left', :'left_geometry') as left_geometry,
-    pg_temp.rjoin_geometry(:'right', :'right_geometry') as right_geometry,
+    pg_temp.rjoin_geometry(:'left', :'left_geometry', :'geography') as left_geometry,
+    pg_temp.rjoin_geometry(:'right', :'right_geometry', :'geography') as right_geometry,
     pg_temp.rjoin_columns(:'left', :'left_columns') as left_columns,
     pg_temp.rjoin_columns(:'right', :'right_columns') as right_columns \gset
 \if :by_distance
@@ -526,23 +553,26 @@ select pg_temp.rjoin_create(:'into', format(
     'as select l.%I as left_id, r.%I as right_id %s %s %s from %s l, %s r with no data',
     :'left_id', :'right_id', pg_temp.rjoin_listed(:'left_columns', ', l.%1$I as %2$I', :'left_prefix'),
     pg_temp.rjoin_listed(:'right_columns', ', r.%1$I as %2$I', :'right_prefix'),
-    :'measure_of_table', :'left', :'right')) \g /dev/null
-select pg_temp.rjoin_whole_name(:'into') as pairs \gset
-\if :envelopes
+    :'measure_of_table', :'left', :'right'), :'append') as is_new \gset
+select pg_temp.rjoin_whole_name(:'into') as pairs, :'is_new' and :'envelopes' as is_new_with_exact \gset
+\if :is_new_with_exact
     alter table :pairs add column exact boolean not null;
+\endif
+\if :envelopes
     \set exact_column ', exact'
-    \set exact ', l.exact and r.exact'
 \else
     \set exact_column ''
-    \set exact ''
 \endif
 \if :lists
-    select pg_temp.rjoin_create(:'skipped', '(side text not null, id text, reason text not null)') \g /dev/null
+    select pg_temp.rjoin_create(:'skipped', '(side text not null, id text, reason text not null)', :'append')
+    \g /dev/null
     select pg_temp.rjoin_whole_name(:'skipped') as left_out \gset
 \endif
 
-select pg_temp.rjoin_read(:'left', :'left_id', :'left_geometry', 'rjoin_left', given, :'rings', :'left_columns'),
-    pg_temp.rjoin_read(:'right', :'right_id', :'right_geometry', 'rjoin_right', given, :'rings', :'right_columns')
+select pg_temp.rjoin_read(:'left', :'left_id', :'left_geometry', 'rjoin_left', given, :'rings', :'left_columns',
+        :'left_where'),
+    pg_temp.rjoin_read(:'right', :'right_id', :'right_geometry', 'rjoin_right', given, :'rings', :'right_columns',
+        :'right_where')
 from (select nullif(:'decimals', '')::integer as given) option \g /dev/null
 select pg_temp.rjoin_judge('rjoin_left', :'left', :'others'),
     pg_temp.rjoin_judge('rjoin_right', :'right', :'others') \g /dev/null
@@ -576,8 +606,8 @@ select pg_temp.rjoin_write('rjoin_left', :'left', :decimals, 'rjoin_left_file'),
 \copy (select id, wkt from rjoin_right_file) to 'right.csv' csv header
 
 select '--scale ' || :decimals || ' --round' || case
-    when exists (select from rjoin_left where shape is not null)
-        or exists (select from rjoin_right where shape is not null)
+    when exists (select from rjoin_left where wkt is not null)
+        or exists (select from rjoin_right where wkt is not null)
     then ' --geometry any --rings even-odd' else '' end as format \gset
 \setenv RJOIN_FORMAT :format
 create temporary table rjoin_pairs (left_n bigint, right_n bigint :measure_of_pairs) on commit drop;
@@ -586,7 +616,33 @@ select pg_temp.rjoin_listed(:'left_columns', ', %2$I', :'left_prefix')
         || pg_temp.rjoin_listed(:'right_columns', ', %2$I', :'right_prefix') as carried,
     pg_temp.rjoin_listed(:'left_columns', ', l.c%3$s', '') || pg_temp.rjoin_listed(:'right_columns', ', r.c%3$s', '')
         as carrying \gset
+-- A left row without a partner has none surely, but where it, or a right row, has an envelope in place of its shape:
+-- envelopes that share no point, or are further apart, are those of shapes that are so too; of other relations they say
+-- nothing.
+select case when :'by_distance' or :'relation' = 'intersects' then 'true'
+    else 'l.exact and not exists (select from rjoin_right where fault is null and not exact)' end as is_alone \gset
+\if :envelopes
+    \set exact ', case when p.left_n is null then ' :is_alone ' else l.exact and r.exact end as exact'
+\else
+    \set exact ''
+\endif
+\if :keeps_left
+    select pg_temp.rjoin_check_partners(:'right') \g /dev/null
+    \set pairs_of 'rjoin_left l left join rjoin_pairs p on p.left_n = l.n left join rjoin_right r on r.n = p.right_n'
+    \set chosen 'where l.fault is null'
+\else
+    \set pairs_of 'rjoin_pairs p join rjoin_left l on l.n = p.left_n join rjoin_right r on r.n = p.right_n'
+    \set chosen ''
+\endif
 insert into :pairs (left_id, right_id :carried :measure_column :exact_column)
-select l.id, r.id :carrying :measure_value :exact
-from rjoin_pairs p join rjoin_left l on l.n = left_n join rjoin_right r on r.n = right_n order by :order;
+select l.id, r.id :carrying :measure_value :exact from :pairs_of :chosen order by :order;
+
+-- What is told of this run, which may not be the first one into these tables.
+select count(*) as found from rjoin_pairs \gset
+select count(*) as lonely from rjoin_left l
+where :'keeps_left' and fault is null and not exists (select from rjoin_pairs where left_n = l.n) \gset
+select count(*) as inexact from rjoin_pairs join rjoin_left l on l.n = left_n join rjoin_right r on r.n = right_n
+where :'envelopes' and not (l.exact and r.exact) \gset
+select count(*) as listed from (select fault from rjoin_left union all select fault from rjoin_right) both_sides
+where :'lists' and fault is not null \gset
 \echo ready

@@ -662,6 +662,89 @@ def test_all_digits_are_handed_over(server: Dict[str, str]) -> None:
         ["1", "1"], ["2", "2"], ["3", "3"], ["4", "4"]]
 
 
+def test_rows_of_conditions_take_part(server: Dict[str, str]) -> None:
+    """A comment in one ends with it."""
+    done(server, "parcels", "zones", "--relation", "overlaps", "--into", "some_overlaps",
+         "--left-where", "id like '%South%' or false -- the rest", "--right-where",
+         "ST_XMax(geom) > 10")
+    own = psql(server, OWN.format(left="(select * from parcels where id like '%South%')",
+                                  right="(select * from zones where ST_XMax(geom) > 10)",
+                                  relation="Overlaps"))
+    assert psql(server, "select * from some_overlaps order by 1, 2") == own and own
+
+
+@pytest.mark.parametrize("words, condition", [
+    (("zones", "--relation", "overlaps"), "ST_Overlaps(l.geom, r.geom)"),
+    (("zones", "--relation", "overlaps", "--pairs", "--left-columns", "geom"),
+     "ST_Overlaps(l.geom, r.geom)"),
+    (("stations", "--distance", "1"), "ST_DWithin(l.geom, r.geom, 1)"),
+    (("stations", "--nearest", "1", "--distance", "2"), "ST_DWithin(l.geom, r.geom, 2) and"
+     " not exists (select from stations s"
+     " where ST_Distance(l.geom, s.geom) < ST_Distance(l.geom, r.geom))")])
+def test_left_rows_without_a_partner_are_kept(server: Dict[str, str], words: Tuple[str, ...],
+                                              condition: str) -> None:
+    told = done(server, "parcels", *words, "--left-join", "--into", "kept")
+    own = psql(server, f"select l.id, r.id from parcels l left join {words[0]} r"
+               f" on {condition} order by 1, 2")
+    assert psql(server, "select left_id, right_id from kept order by 1, 2") == own
+    alone = [row for row in own if row[1] == ""]
+    assert told == (f"pairs in kept: {len(own) - len(alone)}\n"
+                    f"left rows without a partner: {len(alone)}\n")
+    assert 0 < len(alone) < len(own)
+    psql(server, "drop table kept")
+
+
+def test_a_left_join_whose_right_rows_are_left_out_is_refused(server: Dict[str, str]) -> None:
+    psql(server, "create table partners (id int primary key, geom geometry)",
+         "insert into partners values (1, null), (2, 'LINESTRING (0 0, 9 9)'),"
+         " (3, 'GEOMETRYCOLLECTION (POINT (0 0), POINT (2 0))')",
+         "create table places (id int primary key, geom geometry)",
+         "insert into places values (1, 'POINT (1 1)'), (2, 'POINT (1 0)'), (3, 'POINT (5 9)'),"
+         " (4, 'CIRCULARSTRING (0 5, 1 6, 2 5)')")
+    words = ["places", "partners", "--left-join", "--relation"]
+    assert ("partners: rows left out: 2, each of which may be the partner of a left row without one"
+            in refused(server, *words, "within", "--into", "never", "--others", "skip"))
+    words += ["within", "--others", "envelope", "--right-where", "geom is not null", "--into"]
+    assert done(server, *words, "parted") == (
+        "pairs in parted: 2\nleft rows without a partner: 2\n"
+        "pairs that rest on an envelope, where exact is false: 1\n"
+        "rows listed in parted_skipped: 0\n")
+    assert psql(server, "select left_id, right_id, exact from parted order by 1") == [
+        ["1", "2", "t"], ["2", "3", "f"], ["3", "", "f"], ["4", "", "f"]]
+    words[words.index("within")] = "intersects"
+    done(server, *words, "met")
+    assert psql(server, "select left_id, right_id, exact from met order by 1") == [
+        ["1", "2", "t"], ["2", "3", "f"], ["3", "", "t"], ["4", "", "t"]]
+
+
+def test_rows_are_added_to_a_table(server: Dict[str, str]) -> None:
+    """Which is made by the first run; the counts are those of each."""
+    words = ["parcels", "zones", "--others", "skip", "--into", "grows", "--append", "--relation"]
+    counts = []
+    for relation in ("overlaps", "within", "overlaps"):
+        counts.append(len(psql(server, OWN.format(left="parcels", right="zones",
+                                                  relation=relation))))
+        assert done(server, *words, relation) == (f"pairs in grows: {counts[-1]}\n"
+                                                  "rows listed in grows_skipped: 0\n")
+    assert psql(server, "select count(*) from grows") == [[str(sum(counts))]] and all(counts)
+    before = psql(server, "select * from grows order by 1, 2, 3")
+    assert "already exists" in refused(server, *words[:6], "--relation", "within")
+    assert 'column "distance" of relation "grows" does not exist' in refused(
+        server, *words[:-1], "--distance", "1")
+    assert psql(server, "select * from grows order by 1, 2, 3") == before
+
+
+def test_a_geography_is_cast_where_that_is_told(server: Dict[str, str]) -> None:
+    psql(server, "create table earth (id int primary key, place geography)",
+         "insert into earth values (1, 'POINT (1.5 1.5)'), (2, 'LINESTRING (1 1, 2 2)')",
+         "create table flat (id int primary key, geom geometry)",
+         "insert into flat values (1, 'SRID=4326;LINESTRING (0 0, 3 3)')")
+    told = done(server, "earth", "flat", "--relation", "within", "--geography", "cast", "--into",
+                "on_earth")
+    assert told == ("pairs in on_earth: 2\nrjoin-postgis: warning: earth: the column place is of "
+                    "type geography, and is joined in the plane of its degrees\n")
+
+
 @pytest.mark.parametrize("words, text", [
     (["nowhere", "zones", "--relation", "within"], 'relation "nowhere" does not exist'),
     (["parcels", "zones", "--relation", "disjoint"], "disjoint features may fit"),
@@ -673,15 +756,19 @@ def test_all_digits_are_handed_over(server: Dict[str, str]) -> None:
     (["parcels", "zones", "--relation", "within", "--into", "zones"], "already exists"),
     (["other_system", "zones", "--relation", "within"], "the reference systems 0 and 4326"),
     (["globe", "zones", "--relation", "within"],
-     "globe: the column place is of type geography: cast it to geometry in a view"),
+     "globe: the column place is of type geography: choose --geography cast"),
     (["globe", "zones", "--relation", "within", "--left-geometry", "place"],
-     "globe: the column place is of type geography: cast it to geometry in a view"),
+     "globe: the column place is of type geography: choose --geography cast"),
     (["parcels", "zones", "--relation", "within", "--into", 64 * "x"],
      f"--into: a name has more than 63 bytes: {64 * 'x'}"),
     (["parcels", "zones", "--relation", "within", "--others", "skip", "--into", 60 * "x"],
      f"--skipped: a name has more than 63 bytes: {60 * 'x'}_skipped"),
     (["parcels", "zones", "--relation", "within", "--left-columns", "geom", "--left-prefix",
       60 * "x"], f"would have a name of more than 63 bytes: {60 * 'x'}geom"),
+    (["parcels", "zones", "--relation", "within", "--left-where", "height > 1"],
+     'column "height" does not exist'),
+    (["parcels", "zones", "--relation", "within", "--append", "--into", "unkeyed"],
+     'column "left_id" of relation "unkeyed" does not exist'),
 ])
 def test_faults_leave_nothing(server: Dict[str, str], words: List[str], text: str) -> None:
     psql(server, "create table if not exists unkeyed (id int, geom geometry)",

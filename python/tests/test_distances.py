@@ -192,8 +192,15 @@ def test_distances_have_as_many_decimals_as_the_range_allows(monkeypatch: Any) -
 
 def test_numbers_of_distances_that_cannot_be_used_are_refused() -> None:
     left, right = frame_of(corners_of(7, 5)), frame_of(corners_of(8, 5))
-    for value in (-1, float("nan"), "3", True, [1, 2], np.array([1.0] * 5), float("inf")):
+    for value in (-1, float("nan"), True, float("inf"), np.array(3.0)):
         with pytest.raises(rjoin.ArgumentError, match="^distance must be a finite number"):
+            within(left, right, distance=value)
+    for value, told in (([1, 2], "one for each of the 5 left features"), ([[1] * 5], "shape"),
+                        ([1, 2, 3, 4, "five"], "values that are no numbers"),
+                        ([1, 2, -3, 4, 5], r"not -3.0 \(row 3\)"), ("far", "no column of the left"),
+                        ([1, 2, 3, 4, float("nan")], r"not nan \(row 5\)"), ("name", "no numbers"),
+                        ([1, 2, 3, 4, 0.1234567], "a number|distance 0.1234567 has 7 decimals")):
+        with pytest.raises(rjoin.ArgumentError, match=f"^distance .*{told}|^{told}"):
             within(left, right, distance=value)
     for value in (-1, "3", [1]):
         with pytest.raises(rjoin.ArgumentError, match="^max_distance must be a finite number"):
@@ -319,6 +326,47 @@ def test_any_geometry_is_joined_within_a_distance() -> None:
     assert found["index_right"].fillna(-1).tolist() == [0, 1, 2, -1]
     found = within(others, boxes, "left", distance=5)
     assert found["index_right"].fillna(-1).tolist() == [100, 101, 101]
+
+
+@pytest.mark.parametrize("how", HOW)
+@pytest.mark.parametrize("given", ("array", "series", "list", "column"))
+def test_each_left_feature_may_have_a_distance(how: str, given: str) -> None:
+    """Those of some pairs are exactly the distances, and one is much greater than the others."""
+    lefts, rights = corners_of(11, 90), corners_of(12, 60)
+    squared = squares(lefts, rights)
+    nearest_of = [min(squared[place, other] for other in range(len(rights)))
+                  for place in range(len(lefts))]
+    distances = np.array([0.0, 3.0, 2.5, 7.07, 5.0] * 18)
+    whole = np.array([round(square ** 0.5) ** 2 == square for square in nearest_of])
+    distances[whole] = np.sqrt(np.array(nearest_of)[whole])
+    distances[40] = 90
+    left, right = frame_of(lefts).assign(reach=distances), frame_of(rights)
+    values = {"array": distances, "series": left["reach"], "list": distances.tolist(),
+              "column": "reach"}[given]
+    pairs = [pair for pair, square in squared.items()
+             if square <= round(distances[pair[0]] * 100) ** 2 / 10_000]
+    pairs.sort(key=lambda pair: pair[how == "right"])
+    joined = rjoin.sjoin(left, right, "dwithin", how, distance=values)
+    count = len(rights) if how == "right" else len(lefts)
+    assert rows_of(joined, how) == with_alone(pairs, how, count) and len(pairs) > 99
+
+
+def test_a_distance_of_each_is_compared_exactly() -> None:
+    """Points at 0.3, and at 1 / sqrt(2), which is no whole number of units."""
+    count = 6
+    left = geopandas.GeoDataFrame(
+        geometry=[shapely_geometry.Point(0, 10 * place) for place in range(count)])
+    right = geopandas.GeoDataFrame(geometry=[
+        shapely_geometry.Point(*((0.3, 10 * place) if place < 3 else (0.5, 10 * place + 0.5)))
+        for place in range(count)])
+    for decimals in (None, 6):
+        found = within(left, right, distance=[0.3, 0.299999, 0.300001, 0.707106, 0.707107, 0.7072],
+                       decimals=decimals)
+        assert found.index.tolist() == [0, 2, 4, 5]
+    lacking = pandas.concat([left.iloc[:1].set_geometry([None]), left], ignore_index=True)
+    found = within(lacking, right, "left", distance=[9, 0.3, 0.2, 9, 0, 0, 9], missing="keep")
+    assert found["index_right"].fillna(-1).tolist() == [-1, 0, -1, 2, -1, -1, 5]
+    assert within(left.iloc[:0], right, distance=[]).empty
 
 
 def test_rows_within_a_distance_of_an_envelope_say_so() -> None:

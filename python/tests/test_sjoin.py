@@ -3,13 +3,16 @@ from __future__ import annotations
 
 import itertools
 import warnings
+from pathlib import Path
 from typing import Any, Callable, Dict, List, Tuple
 
 import numpy as np
 import pandas
 import pytest
+from town import TOWN
 
 import rjoin
+from rjoin.command import main as run
 
 geopandas = pytest.importorskip("geopandas")
 shapely_geometry = pytest.importorskip("shapely.geometry")
@@ -218,10 +221,48 @@ def test_names_that_cannot_stand_beside_each_other_are_refused(town: Any) -> Non
     for wrong in (left.assign(index_right=1), left.assign(index_left=1)):
         with pytest.raises(ValueError, match="index_left"):
             rjoin.sjoin(wrong, right)
-    with pytest.raises(rjoin.ArgumentError, match="id_right"):
-        rjoin.sjoin(left.assign(id_right=1), right)
     with pytest.raises(rjoin.ArgumentError, match="matrix"):
         rjoin.sjoin(left.assign(matrix=1), right, matrix=True)
+    for how in ("inner", "left"):
+        with pytest.raises(rjoin.ArgumentError, match="'id_right' of the geometries"):
+            rjoin.sjoin(left.rename_geometry("id_right"), right, "touches", how)
+
+
+@pytest.mark.parametrize("how", HOW)
+def test_two_columns_may_have_one_name(town: Any, how: str) -> None:
+    """By a suffix, or since a frame has two; as GeoPandas has them, with the warning of pandas."""
+    left, right = town["parcels"], town["zones"]
+    twice = pandas.concat([right, right[["id"]].assign(id="more")], axis=1)
+    for one, other in ((left.assign(id_right=1), right), (left.drop(columns="id"), twice)):
+        ours, theirs = rjoin.sjoin(one, other, "within", how), geopandas.sjoin(
+            one, other, how, "within")
+        assert list(ours.columns) == list(theirs.columns)
+        assert ours.columns.has_duplicates
+        for frame in (ours, theirs):
+            frame.columns = [f"{name} {place}" if name != "geometry" else name
+                             for place, name in enumerate(frame.columns)]
+        same(ours, theirs)
+
+
+@pytest.mark.parametrize("how", HOW)
+def test_without_a_predicate_envelopes_are_joined(town: Any, how: str) -> None:
+    """Also those of collections, and with no word of envelopes, unless these are asked for."""
+    both = shapely_geometry.GeometryCollection([shapely_geometry.Point(100, 100),
+                                                shapely_geometry.LineString([(5, 5), (40, 90)])])
+    for left, right in itertools.product(LAYERS, repeat=2):
+        more = geopandas.GeoDataFrame({"id": ["both"]}, geometry=[both], crs=town[left].crs)
+        one, other = pandas.concat([town[left], more], ignore_index=True), town[right]
+        with warnings.catch_warnings():
+            warnings.simplefilter("error", rjoin.EnvelopeWarning)
+            ours = rjoin.sjoin(one, other, None, how)
+        theirs = geopandas.sjoin(one, other, how, predicate=None)
+        if len(theirs) and theirs[f"index_{'left' if how == 'right' else 'right'}"].notna().any():
+            same(ours, theirs)
+    with pytest.warns(rjoin.EnvelopeWarning):
+        marked = rjoin.sjoin(one, other, None, how, other="envelope")
+    assert list(marked.columns) == [*ours.columns, "exact"]
+    with pytest.raises(rjoin.ArgumentError, match="None has no letters"):
+        rjoin.sjoin(one, other, None, how, matrix=True)
 
 
 def test_rows_without_a_partner_have_no_letters(town: Any) -> None:
@@ -267,6 +308,43 @@ def test_a_warning_tells_of_two_reference_systems(town: Any) -> None:
             call(town["parcels"], unknown)
 
 
+def test_another_reference_system_is_transformed_where_that_is_asked_for(town: Any,
+                                                                         tmp_path: Path) -> None:
+    """The geometries of a result are those of the frames."""
+    left = town["parcels"]
+    right = town["zones"].to_crs("EPSG:4326")
+    calls: Dict[str, Callable[..., Any]] = {
+        "within": lambda **words: rjoin.sjoin(left, right, "within", **words),
+        "right": lambda **words: rjoin.sjoin(left, right, "within", how="right", **words),
+        "nearest": lambda **words: rjoin.sjoin_nearest(left, right, **words)}
+    for name, call in calls.items():
+        with warnings.catch_warnings():
+            warnings.simplefilter("error", UserWarning)
+            ours = call(to_crs=True)
+        plain = right.to_crs(left.crs)
+        other = rjoin.sjoin_nearest(left, plain, decimals="auto") if name == "nearest" else (
+            rjoin.sjoin(left, plain, "within", "right" if name == "right" else "inner",
+                        decimals="auto"))
+        assert ours.index.tolist() == other.index.tolist() and len(ours) > 9
+        assert ours.crs == (right.crs if name == "right" else left.crs)
+        if name == "right":
+            assert ours.geometry.tolist() == right.geometry.loc[ours.index].tolist()
+        assert ours.attrs["decimals"] == other.attrs["decimals"] == 6
+    right.to_file(tmp_path / "zones.gpkg", driver="GPKG")
+    for layer in (right, right.geometry, tmp_path / "zones.gpkg"):
+        pairs = rjoin.pairs(left, layer, "within", to_crs=True, decimals=3)
+        assert pairs.attrs["decimals"] == 3 and len(pairs) > 9
+    assert len(rjoin.sjoin(left, town["zones"], "within", to_crs=True, scale=2)) > 9
+    for one, other in ((left, list(right.geometry)), (TOWN / "parcels.csv", right)):
+        with pytest.raises(rjoin.ArgumentError, match="to_crs needs the reference system of both"):
+            rjoin.pairs(one, other, to_crs=True)
+    output = tmp_path / "out.csv"
+    left.to_file(tmp_path / "parcels.gpkg", driver="GPKG")
+    files = [str(tmp_path / "parcels.gpkg"), str(tmp_path / "zones.gpkg")]
+    assert run([*files, "--relation", "within", "--to-crs", "-o", str(output)]) == 0
+    assert len(pandas.read_csv(output)) == len(calls["within"](to_crs=True))
+
+
 @pytest.mark.parametrize("predicate", ("disjoint", "coveredby", "coveredBy", "inner",
                                        "FF*FF****X", ""))
 def test_other_predicates_are_refused_by_name(town: Any, predicate: str) -> None:
@@ -292,8 +370,9 @@ def test_wrong_arguments_are_refused_before_anything_is_read(town: Any) -> None:
         rjoin.sjoin(left.geometry, right)
     calls: Tuple[Callable[..., Any], ...] = (rjoin.sjoin, rjoin.pairs, rjoin.draw)
     for call, value in itertools.product(calls, (None, ["intersects"])):
-        with pytest.raises(rjoin.ArgumentError, match="relation must be a text"):
-            call(left, right, value)
+        if call is not rjoin.sjoin or value is not None:
+            with pytest.raises(rjoin.ArgumentError, match="relation must be a text"):
+                call(left, right, value)
 
 
 def test_many_boxes_are_joined_as_geopandas_does() -> None:

@@ -34,14 +34,16 @@ def jobs_of(program: str, layer: Path, block: int) -> Sequence[Any]:
     request: Any = SimpleNamespace(
         program=Program(program, Reading()), block_bytes=block, has_texts=False, skip=None
     )
-    engine: Any = SimpleNamespace(all=lambda name, task, jobs: [task(job) for job in jobs])
-    layout: Any = None
-    inputs = find_inputs(str(layer), str(layer))
-    return steps.Steps(request, Reach(0, "matrix", 9), inputs, layout, engine).cut()
+    engine: Any = SimpleNamespace(
+        all=lambda name, task, jobs: [task(job) for job in jobs], workers=SimpleNamespace(count=1)
+    )
+    store: Any = SimpleNamespace(layout=None)
+    inputs = find_inputs({Side.LEFT: str(layer), Side.RIGHT: str(layer)})
+    return steps.Steps(request, Reach(0, "matrix", 9), inputs, store, engine).cut()
 
 
 def features_of(program: Program, block: blocks.Extent) -> tuple[Features, Optional[RowFault]]:
-    read = parts.features_of(program, block.number, block.read(), skips=False)
+    read = parts.features_of(program, block.has_header, block.read(), skips=False)
     return read.features, read.fault
 
 
@@ -109,7 +111,7 @@ def test_what_is_told_of_a_block_counts_all_of_its_parts(
         rows[number - 1] = (f"crossing{number}", CROSSING)
     block = jobs_of(program, write_layer(tmp_path / "layer.csv", rows), 4000)[0].block
     reading = Reading(geometry="any", rings="even-odd")
-    read = parts.features_of(Program(program, reading), 0, block.read(), skips=True)
+    read = parts.features_of(Program(program, reading), True, block.read(), skips=True)
     assert (read.skipped.rows.tolist(), read.fault) == (list(bad), None)
     kept = [number for number in range(1, 51) if number not in bad]
     assert len(read.features.boxes) == len(kept)
@@ -124,7 +126,7 @@ def test_where_the_header_begins(tmp_path: Path, mark: bytes, end: bytes, count:
     """Behind any number of line ends, also of more than are read at once."""
     layer, before = tmp_path / "layer.csv", mark + end * count
     layer.write_bytes(before + b"id,wkt\r\n")
-    file = find_inputs(str(layer), str(layer))[Side.LEFT]
+    (file,) = find_inputs({Side.LEFT: str(layer)})[Side.LEFT]
     assert blocks.header_begin(file) == len(before)
 
 
@@ -136,7 +138,7 @@ def test_a_segment_is_what_its_whole_is(
     monkeypatch.setattr(blocks, "END_BYTES", 100)
     rows = [(f"n{number}", geometry) for number in range(99)]
     layer = str(write_layer(tmp_path / "layer.csv", rows))
-    file = find_inputs(layer, layer)[Side.LEFT]
+    (file,) = find_inputs({Side.LEFT: layer})[Side.LEFT]
     for begin in range(7, 60):
         segment = blocks.Extent(file, 0, begin, file.bytes)
         found, whole = blocks.scan_segment(segment), scan(segment.read())

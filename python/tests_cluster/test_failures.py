@@ -236,6 +236,86 @@ def test_the_command_is_stopped_for_a_while(tools: Tools, pair: tuple[Path, Path
     assert tools.report().read_bytes() == tools.one_run(*pair, "intersects").output
 
 
+STEPS = ("boxes-*.rows", "pieces-*.rows", "pairs-*.rows")
+
+
+def wait_for_kept(folder: Path, name: str, process: Any) -> None:
+    """Waits until a step of a join that may go on has left some file."""
+    end = time.monotonic() + WAIT
+    while not list(folder.glob(name)):
+        if process.poll() is not None or time.monotonic() > end:
+            process.kill()
+            pytest.fail(process.stderr.read())
+        time.sleep(0.01)
+
+
+def goes_on(tools: Tools, address: str, pair: tuple[Path, Path], *more: str) -> None:
+    """The same command ends the join, with the bytes of one run, and its folder goes."""
+    process = started(tools, address, *pair, *more)
+    assert process.wait(WAIT) == 0, process.stderr.read()
+    assert tools.report().read_bytes() == tools.one_run(*pair, "intersects").output
+    assert not (tools.folder / "kept").exists()
+    check_left_nothing(tools)
+
+
+@pytest.mark.parametrize("step", STEPS)
+def test_a_join_goes_on_whose_command_was_killed(
+    tools: Tools, pair: tuple[Path, Path], step: str
+) -> None:
+    """Also while tasks of the killed one still go on."""
+    kept = ["--resume", str(tools.folder / "kept")]
+    with own_cluster(n_workers=2) as client:
+        process = started(tools, client.scheduler.address, *pair, *kept)
+        wait_for_kept(tools.folder / "kept", step, process)
+        process.kill()
+        process.communicate(timeout=WAIT)
+        assert not tools.report().exists() and (tools.folder / "kept").is_dir()
+        for path in tools.folder.glob(".*.part"):
+            path.unlink()  # what is left of the report, as the page says
+        goes_on(tools, client.scheduler.address, pair, *kept)
+
+
+@pytest.mark.parametrize("step", STEPS)
+def test_a_join_goes_on_whose_scheduler_was_killed(
+    tools: Tools, pair: tuple[Path, Path], step: str
+) -> None:
+    kept = ["--resume", str(tools.folder / "kept"), "--patience", "9"]
+    first = tools.folder / "first"
+    first.mkdir()
+    with own_processes(first) as (address, number):
+        process = started(tools, address, *pair, *kept)
+        wait_for_kept(tools.folder / "kept", step, process)
+        os.kill(number, signal.SIGKILL)
+        errors = told(process.communicate(timeout=WAIT)[1])
+    assert (process.returncode, errors) == (1, "rjoin-cluster: the scheduler was lost\n")
+    assert not tools.report().exists()
+    goes_on(tools, tools.scheduler, pair, *kept)
+
+
+@pytest.mark.parametrize("step", STEPS)
+def test_a_join_goes_on_whose_workers_were_killed(
+    tools: Tools, pair: tuple[Path, Path], step: str
+) -> None:
+    """All of them, which nothing starts again."""
+    kept = ["--resume", str(tools.folder / "kept"), "--patience", "6"]
+    with own_cluster(n_workers=0) as client, ExitStack() as stack:
+        address = client.scheduler.address
+        command = [sys.executable, "-m", "distributed.cli.dask_worker", address, "--no-nanny"]
+        workers = [
+            stack.enter_context(
+                subprocess.Popen([*command, "--no-dashboard"], stderr=subprocess.DEVNULL)
+            )
+            for _ in range(2)
+        ]
+        process = started(tools, address, *pair, *kept)
+        wait_for_kept(tools.folder / "kept", step, process)
+        for worker in workers:
+            worker.kill()
+        errors = told(process.communicate(timeout=WAIT)[1])
+    assert (process.returncode, errors) == (1, "rjoin-cluster: no worker for 6 seconds\n")
+    goes_on(tools, tools.scheduler, pair, *kept)
+
+
 @contextmanager
 def small_disk(folder: Path) -> Iterator[Path]:
     """A disk of 2 MB, for which one has to be root."""

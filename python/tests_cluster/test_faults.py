@@ -8,7 +8,7 @@ import numpy as np
 import pytest
 from conftest import Tools, told, write_layer
 
-from rjoin_cluster import steps
+from rjoin_cluster import joining, steps
 
 GOOD = [(f"n{number}", f"POINT ({number} {number})") for number in range(60)]
 
@@ -66,7 +66,7 @@ def test_the_first_fault_is_told(tools: Tools, capfd: pytest.CaptureFixture[str]
 def test_a_double_id_among_many_ranges_of_hashes(
     tools: Tools, most: int, capfd: pytest.CaptureFixture[str], monkeypatch: pytest.MonkeyPatch
 ) -> None:
-    monkeypatch.setattr(steps, "HASHES_PER_TASK", most)
+    monkeypatch.setattr(joining, "HASHES_PER_TASK", most)
     doubles = [(f"n{number}", "POINT (1 1)") for number in (31, 7, 12)]
     check_fault(
         tools,

@@ -24,7 +24,7 @@ def layer(tmp_path: Path) -> Path:
 
 
 def found(layer: Path) -> Input:
-    return find_inputs(str(layer), str(layer))[Side.LEFT]
+    return find_inputs({Side.LEFT: str(layer)})[Side.LEFT][0]
 
 
 def rewrite(layer: Path) -> None:

@@ -1,6 +1,7 @@
 """Signals that end a join: one line, no report, and nothing left behind."""
 from __future__ import annotations
 
+import json
 import os
 import signal
 import time
@@ -14,6 +15,7 @@ import pytest
 from conftest import WAIT, Tools, check_left_nothing, running_group, told, wait_for
 
 from rjoin_cluster.command import Interrupted, interrupts
+from rjoin_cluster.sums import sum_of_file
 
 
 @pytest.fixture
@@ -62,6 +64,36 @@ def test_the_command_is_interrupted(
     assert (process.returncode, errors) == (128 + number, "rjoin-cluster: interrupted\n")
     assert not tools.report().exists()
     check_left_nothing(tools)
+
+
+def test_an_interrupted_join_goes_on(
+    tools: Tools, pair: tuple[Path, Path], held: str
+) -> None:
+    """Its folder stays, and holds all that was done."""
+    folder = tools.folder / "rjoin-cluster-kept"
+    more = ["--tiles", "24", "--block", "200000", "--program", held, "--resume", str(folder)]
+    words = tools.local_command(*pair, "intersects", *more)
+    with running_group(words) as process:
+        wait_for(tools, "pairs-*.rows", process)
+        process.send_signal(signal.SIGINT)
+        errors = told(process.communicate(timeout=WAIT)[1])
+    assert (process.returncode, errors) == (130, "rjoin-cluster: interrupted\n")
+    assert not list(tools.folder.glob("*report*")) and (folder / "record").stat().st_size > 0
+    Path(held).write_text(f'#!/bin/sh\nexec {tools.program} "$@"\n')
+    program = read_description(folder)["program"]
+    write_description(folder, program, sum_of_file(held))
+    tools.check_same(*pair, "intersects", "0", *more)
+    assert not folder.exists()
+
+
+def read_description(folder: Path) -> Any:
+    return json.loads((folder / "join.json").read_text())
+
+
+def write_description(folder: Path, before: str, now: str) -> None:
+    """Takes the program that was held for the one that is not."""
+    text = (folder / "join.json").read_text()
+    (folder / "join.json").write_text(text.replace(before, now))
 
 
 def test_signals_that_are_ignored() -> None:

@@ -4,6 +4,7 @@ from __future__ import annotations
 import csv
 import json
 import random
+from pathlib import Path
 
 import layers
 import pytest
@@ -112,6 +113,41 @@ def test_features_that_no_tile_separates(
     tools.check_same(left, left, "equals", "0", "--tiles", "4", "--block", block, "--json")
     figures = json.loads(capsys.readouterr().out)
     assert (figures["tiles"], figures["runs"], figures["pairs"]) == (1, 9, 10_000)
+
+
+WHOLE = (
+    ["join", "--relation", "intersects"],
+    ["join", "--relation", "within", "--pairs"],
+    ["join", "--relation", "intersects", "--geometry", "any"],
+    ["near", "--distance", "40"],
+    ["nearest", "--distance", "900", "--most", "3"],
+)
+
+
+@pytest.mark.parametrize("words", WHOLE)
+@pytest.mark.parametrize("skips", [False, True])
+def test_a_small_right_layer_goes_whole_to_each_run(
+    tools: Tools, words: list[str], skips: bool, capsys: pytest.CaptureFixture[str]
+) -> None:
+    """Without tiles; with them, and where the left layer is the small one, the bytes are those."""
+    rows = clusters(1500, 3)
+    some = [(f"s{number}", shape) for number, (_, shape) in enumerate(rows[::170])]
+    if skips:
+        rows[700:700] = [("bad", "POINT (1")]
+    left = write_layer(tools.folder / "left.csv", rows)
+    right = write_layer(tools.folder / "right.csv", some)
+    command, *more = words
+    if skips:
+        more += ["--skip", str(tools.folder / "skipped")]
+    cases: list[tuple[Path, Path, list[str], int]] = [
+        (left, right, [], 0), (left, right, ["--tiles", "4"], 4), (right, left, [], 1)
+    ]
+    for one, other, cut, tiles in cases:
+        asked = [command, one, other, *more]
+        output = tools.check_command(asked, "--block", "9999", *cut, "--json")
+        figures = json.loads(capsys.readouterr().out)
+        assert figures["tiles"] == tiles and output.count(b"\n") > 1
+        assert tiles or figures["runs"] == figures["left"]["blocks"] > 4
 
 
 @pytest.mark.parametrize("sides", [(0, 0), (0, 3), (3, 0)])

@@ -106,7 +106,7 @@ def test_pairs_of_one_run_stay_as_they_are(tools: Tools) -> None:
     program = Program("/nowhere/rjoin", Reading())
     condition = Condition("nearest", (), "1")
     search = nearest.Search(
-        Layout(str(tools.folder)), program, condition, Reach(1, "distance", 2), {}, 10
+        Layout(str(tools.folder)), program, condition, Reach(1, "distance", 2), 10
     )
     pairs = np.zeros(5, dtype=pair_type(2, 3, True))
     pairs["rank"] = [0, 0, 20, 20, 30]

@@ -16,14 +16,17 @@ from rjoin_cluster.layout import Layout, save_bytes
 from rjoin_cluster.needs import TOKEN, Needs, checked, lack_of
 from rjoin_cluster.program import Program
 from rjoin_cluster.reading import Reading
+from rjoin_cluster.sides import Side
+from rjoin_cluster.sources import save_inputs
 
 
 def test_what_a_worker_lacks(tools: Tools, monkeypatch: pytest.MonkeyPatch) -> None:
     layout, program = Layout(str(tools.folder)), Program(tools.program, Reading())
     layer = write_layer(tools.folder / "layer.csv", [("a", "POINT (1 1)")])
     other = write_layer(tools.folder / "other.csv", [("b", "POINT (2 2)")])
-    files = tuple(find_inputs(str(layer), str(other)).values())
-    needs = Needs(layout, program, program.version(), files)
+    files = find_inputs({Side.LEFT: str(layer), Side.RIGHT: str(other)})
+    save_inputs(layout, [*files[Side.LEFT], *files[Side.RIGHT]])
+    needs = Needs(layout, program, program.version())
     assert "No such file" in lack_of(needs)
     layout.token().write_bytes(b"of others")
     assert lack_of(needs) == f"{tools.folder} is not the folder of the join"
@@ -41,13 +44,15 @@ def test_what_a_worker_lacks(tools: Tools, monkeypatch: pytest.MonkeyPatch) -> N
     assert lack_of(needs) == f"{layer} is another file"
     monkeypatch.setattr("tempfile.tempdir", "/nowhere")
     lack = "temporary files cannot be written: /nowhere: No such file or directory"
-    assert lack_of(replace(needs, files=())) == lack
+    save_inputs(layout, [])
+    assert lack_of(needs) == lack
 
 
 def test_a_task_of_a_process_that_was_not_checked(tools: Tools) -> None:
     """Another one may have taken over the address of a worker that was."""
     layout, program = Layout(str(tools.folder)), Program(tools.program, Reading())
-    needs, done = Needs(layout, program, program.version(), ()), list[int]()
+    needs, done = Needs(layout, program, program.version()), list[int]()
+    save_inputs(layout, [])
     with pytest.raises(Unfit, match="No such file"):
         checked(needs, done.append, 1)
     assert done == []
@@ -68,7 +73,7 @@ def test_a_worker_of_another_user(tools: Tools, mode: int, path: str) -> None:
     Path(layout.folder).mkdir(mode)
     save_bytes(layout.token(), [TOKEN])
     layout.token().chmod(0o644)
-    lack = as_another_user(lambda: lack_of(Needs(layout, program, "rjoin", ())))
+    lack = as_another_user(lambda: lack_of(Needs(layout, program, "rjoin")))
     assert lack.startswith(f"[Errno 13] Permission denied: '{layout.folder}/{path}")
     assert lack.endswith("; a worker has to be of the user of the join, and this one is user 65534")
 

@@ -1,6 +1,7 @@
 """Files that a join writes: whole or not at all, and without an end of rows in memory."""
 from __future__ import annotations
 
+import errno
 import os
 import stat
 from pathlib import Path
@@ -26,17 +27,37 @@ def test_reports_of_one_name_are_in_no_way_of_each_other(tmp_path: Path) -> None
 
 
 @pytest.mark.parametrize("mode", [0o600, 0o640, 0o666, 0o400])
-def test_a_report_keeps_its_mode(tmp_path: Path, mode: int) -> None:
-    """It has it before anything is written, and a new one has that of the user's mask."""
-    target, fresh = tmp_path / "report", tmp_path / "new"
+@pytest.mark.parametrize("links", [True, False])
+def test_a_report_keeps_its_mode(
+    tmp_path: Path, mode: int, links: bool, monkeypatch: pytest.MonkeyPatch
+) -> None:
+    """It has it before anything is written, also by the name of another file, and a new one has
+    that of the user's mask.
+    """
+    target, fresh, whole, more = (tmp_path / name for name in ("report", "new", "whole", "more"))
     target.touch()
     target.chmod(mode)
-    with new_report(str(target)) as report, new_report(str(fresh)):
+    for path in (whole, more):
+        save_rows(path, [np.arange(9)])
+    if not links:
+        monkeypatch.setattr(os, "link", refuse)
+    with new_report(str(target)) as report, new_report(str(fresh)) as other:
         assert stat.S_IMODE(report.part.stat().st_mode) == mode
+        report.take(whole)
+        assert stat.S_IMODE(report.part.stat().st_mode) == mode
+        other.take(more)
+    assert target.read_bytes() == fresh.read_bytes() == whole.read_bytes()
+    assert (target.stat().st_ino == whole.stat().st_ino) == links
+    monkeypatch.undo()
+    assert sorted(tmp_path.iterdir()) == [more, fresh, target, whole]
     assert stat.S_IMODE(target.stat().st_mode) == mode
     mask = os.umask(0)
     os.umask(mask)
     assert stat.S_IMODE(fresh.stat().st_mode) == 0o666 & ~mask
+
+
+def refuse(*_: object) -> None:
+    raise OSError(errno.EXDEV, "Invalid cross-device link")
 
 
 def test_the_list_is_complete_before_the_report(tmp_path: Path) -> None:

@@ -142,10 +142,10 @@ def test_tiles_of_more_bytes_than_a_run_takes(
     tools: Tools, block: str, monkeypatch: pytest.MonkeyPatch, capsys: pytest.CaptureFixture[str]
 ) -> None:
     """No tile separates the features, and each part is joined with each."""
-    from rjoin_cluster import steps
+    from rjoin_cluster import joining
 
     monkeypatch.setattr(plan, "MOST_RECORDS_BYTES", 400)
-    monkeypatch.setattr(steps, "MOST_RECORDS_BYTES", 400)
+    monkeypatch.setattr(joining, "MOST_RECORDS_BYTES", 400)
     ring = "0 0, 9 0, 8 9, 0 0"
     rows = [(f"a{number}", quoted(f"POLYGON (({ring}))")) for number in range(30)]
     left = write_layer(tools.folder / "left.csv", rows)

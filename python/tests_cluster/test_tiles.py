@@ -24,7 +24,8 @@ def test_each_pair_has_its_reference_point_in_one_tile_that_got_both(wanted: int
     tiles = tiles_of(left, right, wanted)
     assert tiles.count >= wanted
     dealt = [
-        {tile: set(rows.tolist()) for tile, rows in tiles.deal(side)} for side in (left, right)
+        {tile: set(rows.tolist()) for tile, rows in tiles.deal(side, np.arange(len(side)))}
+        for side in (left, right)
     ]
     ones, others = np.mgrid[0:300, 0:300].reshape(2, -1)
     meets = ((left[ones, :2] <= right[others, 2:]) & (right[others, :2] <= left[ones, 2:])).all(1)
@@ -44,7 +45,7 @@ def test_a_crowd_gets_tiles_of_its_own() -> None:
     spread = boxes_of(4, 1000, 10**6, 2)
     left = np.concatenate([crowd, spread])
     tiles = tiles_of(left, spread, 1, features=800)
-    assert max(rows.size for _, rows in tiles.deal(left)) <= 800
+    assert max(rows.size for _, rows in tiles.deal(left, np.arange(len(left)))) <= 800
 
 
 def test_features_that_cover_all_are_not_cut() -> None:

@@ -71,19 +71,25 @@ class Stats(NamedTuple):
 
 def pairs(left: Any, right: Any, relation: str = "intersects", *, scale: Optional[int] = None,
           decimals: Decimals = None, rings: str = "even-odd", workers: Workers = None,
-          ids: str = "label", other: str = "error", missing: str = "error") -> "pandas.DataFrame":
+          ids: str = "label", other: str = "error", missing: str = "error",
+          to_crs: bool = False) -> "pandas.DataFrame":
     """The pairs that stand in a relation, as a frame with the columns left, right and matrix.
 
     relation and workers are as for `sjoin`; matrix has the nine letters of DE-9IM. Pairs come in
     the order of the left layer and then of the right one.
     ids: `"label"` tells features by their labels, `"position"` by their places from 0.
+    to_crs: as for `sjoin`.
     """
-    from rjoin import joining
+    from rjoin import joining, sources
     from rjoin.sources import Rules
 
     relations.check(relation)
-    reading = reading_of(scale, decimals, rings, workers, ids)
-    job = joining.job_of((("left", left), ("right", right)), reading, Rules(other, missing))
+    reading = reading_of(scale, auto_after(to_crs, scale, decimals), rings, workers, ids)
+    if to_crs:
+        left, right = (sources.with_crs(layer, side, reading.rounds)
+                       for side, layer in (("left", left), ("right", right)))
+    job = joining.job_of((("left", left), ("right", sources.right_of(left, right, to_crs))),
+                         reading, Rules(other, missing))
     job.warn_of_crs(depth=1)
     found = joining.joined(job, relation, workers, matrix=True)
     exact = None
@@ -187,6 +193,11 @@ def reading_of(scale: Optional[int], decimals: Decimals, rings: str, workers: Wo
     from rjoin.joining import Reading
 
     return Reading(scale, decimals, rings)
+
+
+def auto_after(to_crs: bool, scale: Optional[int], decimals: Decimals) -> Decimals:
+    """The decimals of a join that may transform coordinates, which then have as many as a float."""
+    return "auto" if to_crs and scale is None and decimals is None else decimals
 
 
 def check_number(name: str, value: Any, least: int, most: int, others: str = "None") -> None:

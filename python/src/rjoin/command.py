@@ -9,21 +9,23 @@ from decimal import Decimal
 from math import isfinite
 from pathlib import Path
 from typing import Any, Callable, Iterator, List, NamedTuple, Optional, Sequence, TextIO, Tuple
-from typing import Union
+from typing import TYPE_CHECKING, Union
 
 from rjoin import outputs, signals
 from rjoin.errors import ArgumentError, EnvelopeWarning, LeftOutWarning, Notice, RjoinError
 from rjoin.found import VERSION
 
+if TYPE_CHECKING:
+    from rjoin import files
+
 SHOWN = 10
 INTERRUPTED = 130
-# What is known to keep rows without geometries; FlatGeobuf drops them.
-TABLES = (".csv", ".dbf", ".geojson", ".gpkg", ".json")
 HELP = """\
 LEFT and RIGHT are FILE or FILE:LAYER, of any kind that GDAL reads, or CSV with the header id,wkt.
+A file may be compressed (.gz), and one of the two may be -, which is standard input.
 OUT gets a row for each pair: what identifies the two features, and the nine letters of DE-9IM, or
-their distance. Its kind is that of its extension: .csv, .gpkg, .shp, .geojson and what else GDAL
-writes; - is standard output, which gets CSV.
+their distance. Its kind is that of its extension: .csv, .tsv, .gpkg, .shp, .geojson and what else
+pandas and GDAL write here; - is standard output, which gets CSV.
 
 Exit status: 0 for success, 1 for a fault of a file or a feature, 2 for invalid arguments"""
 
@@ -105,7 +107,11 @@ def add_reading(known: argparse.ArgumentParser) -> None:
                        help="the fields, such as LON,LAT, of the coordinates of a table, which has "
                             "no geometries by itself")
     given.add_argument("--geometry-column", metavar="FIELD", type=columns(1),
-                       help="the field of a table that has geometries as well-known text")
+                       help="the field of a table that has geometries as well-known text, "
+                            "also with SRID=N; before it, or as hexadecimal well-known binary")
+    known.add_argument("--to-crs", action="store_true",
+                       help="join the right features as they are in the reference system of the "
+                            "left layer, with --decimals auto unless decimals are given")
     known.add_argument("--scale", metavar="K", type=int,
                        help="decimals of a coordinate, 0 to 6; by default as many as are needed")
     known.add_argument("--decimals", metavar="K", type=decimals,
@@ -180,8 +186,8 @@ def run(arguments: argparse.Namespace) -> Notices:
 
     check_outputs(arguments)
     question = matching.question_of(arguments)
-    reading = calls.reading_of(arguments.scale, arguments.decimals, arguments.rings,
-                               arguments.workers)
+    decimals = calls.auto_after(arguments.to_crs, arguments.scale, arguments.decimals)
+    reading = calls.reading_of(arguments.scale, decimals, arguments.rings, arguments.workers)
     left, right = layers(arguments, reading.rounds)
     found = matching.asked((left, right), question, reading, arguments)
     inexact = 0 if found.exact is None else int((~found.exact).sum())
@@ -207,33 +213,33 @@ def check_outputs(arguments: argparse.Namespace) -> None:
         raise ArgumentError("--notices needs a file")
     if notices and notices.resolve() == output.resolve():
         raise ArgumentError("--output and --notices are the same file")
-    if not outputs.is_csv(output):
-        outputs.driver_of(output)
-    if not arguments.geometry and not (outputs.is_csv(output) or output.suffix.lower() in TABLES):
-        raise ArgumentError(f"a file {output.suffix!r} needs geometries: add --geometry, or write "
-                            f"one of {', '.join(TABLES)}")
+    outputs.check_kind(output, arguments.geometry)
 
 
 def layers(arguments: argparse.Namespace, rounds: bool) -> List[Any]:
     """Both layers, their indices what identifies the features."""
-    from rjoin import files
+    from rjoin import files, streams
 
     given: Tuple[str, ...] = arguments.xy or arguments.geometry_column or ()
-    if given and not any(map(files.is_table, (arguments.left, arguments.right))):
+    if {arguments.left, arguments.right} <= set(streams.STANDARD_INPUT):
+        raise ArgumentError("standard input can be one of the two layers alone")
+    left, right = (files.place_of(text, side) for text, side in (
+        (arguments.left, "left"), (arguments.right, "right")))
+    if given and not any(files.is_table(place, given) for place in (left, right)):
         raise ArgumentError("--xy and --geometry-column are for tables, and both layers have "
                             "geometries by themselves")
-    return [layer(text, side, field, rounds, given)
-            for text, side, field in ((arguments.left, "left", arguments.left_id),
-                                      (arguments.right, "right", arguments.right_id))]
+    return [layer(place, side, field, rounds, given)
+            for place, side, field in ((left, "left", arguments.left_id),
+                                       (right, "right", arguments.right_id))]
 
 
-def layer(text: str, side: str, field: Optional[str], rounds: bool,
+def layer(place: "files.Place", side: str, field: Optional[str], rounds: bool,
           given: Tuple[str, ...]) -> Any:
     """The layer, its index what identifies the features."""
     from rjoin import files
 
-    frame = files.read(text, side, rounds, given)
-    if field is None and files.is_plain(files.place_of(text)):
+    frame = files.read(place, side, rounds, given)
+    if field is None and files.is_plain(place):
         field = "id"
     if field is None:
         return frame

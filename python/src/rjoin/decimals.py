@@ -18,6 +18,8 @@ from numpy.typing import NDArray
 Numbers = NDArray[np.float64]
 Units = NDArray[np.int64]
 
+# How many numbers are looked at together, so that they stay in the processor's cache.
+BLOCK = 1 << 14
 MOST = 6
 LIMIT = 1_000_000_000_000
 COORDINATE = "coordinate"
@@ -87,13 +89,19 @@ def fewest(corners: Numbers, name: str = COORDINATE) -> int:
     name: what such a number is.
     """
     numbers = corners.ravel()
-    rest = np.flatnonzero(~is_exact(numbers, 0))
-    for decimals in range(MOST + 1):
-        rest = rest[~is_exact(numbers[rest], decimals)]
-        if not rest.size:
-            return decimals
-    number = repr(float(numbers[rest[0]]))
-    raise Unwritable(int(rest[0]) // corners.shape[1], too_fine(number, name))
+    found = 0
+    for first in range(0, numbers.size, BLOCK):
+        block = numbers[first:first + BLOCK]
+        rest = np.flatnonzero(~is_exact(block, found))
+        for decimals in range(MOST + 1 if rest.size else 0):
+            rest = rest[~is_exact(block[rest], decimals)]
+            if not rest.size:
+                found = max(found, decimals)
+                break
+        if rest.size:
+            row = (first + int(rest[0])) // corners.shape[1]
+            raise Unwritable(row, too_fine(repr(float(block[rest[0]])), name))
+    return found
 
 
 def count_of(number: str) -> int:
@@ -135,8 +143,9 @@ def units(corners: Numbers, decimals: int, name: str = COORDINATE,
     if exact is not None and not exact.all():
         wrong = int((~exact.all(axis=1)).argmax())
         raise Unwritable(wrong, f"a {name} has more than {decimals} decimals")
-    scaled = corners * power if decimals else corners
-    whole: Units = np.rint(scaled).astype(np.int64)
+    whole: Units = np.empty(corners.shape, np.int64)
+    for first in range(0, len(corners), BLOCK):
+        whole[first:first + BLOCK] = np.rint(corners[first:first + BLOCK] * power)
     return whole
 
 

@@ -187,8 +187,11 @@ def columns_of(frames: Sequence[Any], rules: Rules) -> Tuple[List[List[Any]], Li
     names = [list(frame.columns) for frame in frames]
     names[1 - rules.base].remove(frames[1 - rules.base].geometry.name)
     geometry = frames[rules.base].geometry.name
-    both = named_apart(labels[0] + names[0], labels[1] + names[1], rules.suffixes,
-                       own=(geometry, rules.base))
+    both = suffixed(labels[0] + names[0], labels[1] + names[1], rules.suffixes,
+                    own=(geometry, rules.base))
+    if [*both[0], *both[1]].count(geometry) > 1:
+        raise ArgumentError(f"another column would have the name {geometry!r} of the geometries: "
+                            "rename one, or take other suffixes")
     return ([names[:len(some)] for names, some in zip(both, labels)],
             [names[len(some):] for names, some in zip(both, labels)])
 
@@ -223,17 +226,24 @@ def taken_rows(fields: Any, rows: Rows) -> Any:
     return fields.take(rows)
 
 
-def named_apart(left: List[Any], right: List[Any], suffixes: Suffixes,
-                taken: Collection[Any] = (),
-                own: Tuple[Hashable, int] = ("", -1)) -> Tuple[List[Any], List[Any]]:
+def suffixed(left: List[Any], right: List[Any], suffixes: Suffixes, taken: Collection[Any] = (),
+             own: Tuple[Hashable, int] = ("", -1)) -> Tuple[List[Any], List[Any]]:
     """The names of all columns, with suffixes where both sides have one or it is taken.
 
-    own: a name that has no suffix on its side, 0 or 1.
+    own: a name that has no suffix on its side, 0 or 1. Two columns may then have one name, as in
+    GeoPandas.
     """
     shared = (set(left) & set(right)) | (set(left + right) & set(taken))
     lefts, rights = ([f"{name}_{suffix}" if name in shared and (name, side) != own else name
                       for name in names]
                      for side, (names, suffix) in enumerate(zip((left, right), suffixes)))
+    return lefts, rights
+
+
+def named_apart(left: List[Any], right: List[Any], suffixes: Suffixes,
+                taken: Collection[Any]) -> Tuple[List[Any], List[Any]]:
+    """The same, where no two columns may have one name, as in files."""
+    lefts, rights = suffixed(left, right, suffixes, taken)
     name, count = Counter([*taken, *lefts, *rights]).most_common(1)[0]
     if count > 1:
         raise ArgumentError(f"{count} columns would have the name {name!r}: rename one, or take "

@@ -3,7 +3,6 @@ from __future__ import annotations
 
 import io
 import re
-import tempfile
 import warnings
 from contextlib import contextmanager
 from copy import copy
@@ -84,7 +83,8 @@ class Job:
 
     def __init__(self, sources: Sequence[Source], reading: Reading,
                  geometries: Sequence[Single] = (), measure: Optional[Measure] = None) -> None:
-        self.sources = list(sources)
+        self.sources = [source.reread() or source if source.has_binary else source
+                        for source in sources]
         self.reading = reading
         self.geometries = geometries
         self.measure = measure
@@ -145,7 +145,7 @@ class Job:
         A layer is written again only if it has changed.
         """
         written: Dict[Tuple[Source, Scale], Path] = {}
-        with temporary_folder() as folder:
+        with signals.temporary_folder() as folder:
             def run() -> Answer:
                 layers = [(source, self.scale) for source in self.sources]
                 for source, scale in layers:
@@ -238,6 +238,11 @@ class Job:
                 "Use `to_crs()` to reproject one of the input geometries to match the CRS of the "
                 f"other.\n\nLeft CRS: {left}\nRight CRS: {right}", UserWarning,
                 stacklevel=depth + 2)
+
+    def forget_envelopes(self) -> None:
+        """Has nothing told of envelopes, where they are what is to be joined."""
+        for source in self.sources:
+            source.enveloped = ()
 
     def kept(self, place: int) -> Rows:
         """The rows, counted from 0, of an input that aren't left out."""
@@ -352,23 +357,6 @@ def scale_of(sources: Sequence[Numbers], reading: Reading, is_fine: bool = False
 
 def is_auto(reading: Reading) -> bool:
     return isinstance(reading.decimals, str)
-
-
-@contextmanager
-def temporary_folder() -> Iterator[Path]:
-    """A folder that goes at the end, also where a signal ends the process."""
-    made = []
-    try:
-        with signals.cleanly():
-            try:
-                with signals.held():
-                    made.append(tempfile.TemporaryDirectory(prefix="rjoin-"))
-                yield Path(made[0].name)
-            finally:
-                for folder in made:
-                    folder.cleanup()
-    except OSError as fault:
-        raise RjoinError(f"temporary files: {fault.strerror or fault}") from fault
 
 
 @contextmanager

@@ -11,7 +11,7 @@ from rjoin.errors import ArgumentError, Notice
 from rjoin.frames import Flags, Matches
 from rjoin.lengths import Length, Measure
 from rjoin.sjoins import NEAREST, WITHIN, are_exact, are_known
-from rjoin.sources import Rules
+from rjoin.sources import Rules, right_of
 
 if TYPE_CHECKING:
     import argparse
@@ -95,7 +95,7 @@ def asked(layers: Tuple[Any, Any], question: Question, reading: "Reading",
     lengths = (question.length,) if question.length else ()
     measured = question.last == "distance"
     job = joining.job_of(
-        (("left", layers[0]), ("right", layers[1])), reading,
+        (("left", layers[0]), ("right", right_of(*layers, arguments.to_crs))), reading,
         Rules(arguments.other, arguments.missing, keeps=True),
         measure=Measure(lengths, reading.scale is None) if measured else None)
     is_marked = arguments.incomplete == "mark"

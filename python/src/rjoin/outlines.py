@@ -288,8 +288,8 @@ class Table(NamedTuple):
         last = np.cumsum(size) - 1
         text = np.empty(int(ends[-1] + tails[-1]), np.uint8)
         begins = ends - self.point_width
-        put(text, begins, self.written_points())
-        for lead in (OF_POINTS, OF_RUNS, OF_PARTS):
+        put(text, begins - len(LEADS[OF_POINTS]), self.written_points())
+        for lead in (OF_RUNS, OF_PARTS):
             places = begins[self.outlines.leads == lead]
             put_same(text, places - len(LEADS[lead]), LEADS[lead])
         ids = sheet.written(np.arange(first, first + kind.size), self.columns.id)
@@ -301,11 +301,13 @@ class Table(NamedTuple):
         return text
 
     def written_points(self) -> Bytes:
+        """Each point behind a comma, in whose place something else may be written then."""
         x, y = self.columns.x, self.columns.y
-        rows = np.empty((len(self.units), self.point_width), np.uint8)
-        sheet.fill(rows, 0, self.units[:, 0], x)
-        rows[:, x.width] = ord(" ")
-        sheet.fill(rows, x.width + 1, self.units[:, 1], y)
+        rows = np.empty((len(self.units), 1 + self.point_width), np.uint8)
+        rows[:, 0] = ord(",")
+        sheet.fill(rows, 1, self.units[:, 0], x)
+        rows[:, 1 + x.width] = ord(" ")
+        sheet.fill(rows, 2 + x.width, self.units[:, 1], y)
         return rows
 
 

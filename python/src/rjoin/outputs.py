@@ -1,4 +1,4 @@
-"""Files that the command writes: CSV by pandas, others by GDAL, each whole or not at all."""
+"""Files that the command writes, by pandas or by GDAL, each whole or not at all."""
 from __future__ import annotations
 
 import os
@@ -8,12 +8,21 @@ from contextlib import contextmanager
 from importlib.util import find_spec
 from itertools import count
 from pathlib import Path
-from typing import Any, Dict, Iterable, Iterator, Mapping
+from typing import Any, Dict, Iterable, Iterator, List, Mapping
 
 from rjoin.errors import ArgumentError, RjoinError
 
 PACKAGE_KEY = "fid"
 STANDARD_OUTPUT = Path("-")
+# Texts by their separator; all of them may be compressed.
+SEPARATORS = {".csv": ",", ".tsv": "\t"}
+COMPRESSED = (".gz", ".bz2", ".xz")
+# What pandas writes by other modules, of which one has to be installed.
+COLUMNAR = (".parquet", ".feather")
+NEEDED = {".parquet": ("pyarrow",), ".feather": ("pyarrow",), ".xlsx": ("openpyxl", "xlsxwriter"),
+          ".ods": ("odf",)}
+# What GDAL is known to keep rows without geometries in; FlatGeobuf drops them.
+TABLES = (".dbf", ".geojson", ".gpkg", ".json")
 
 
 def refuse_taken(path: Path, overwrite: bool) -> None:
@@ -21,8 +30,35 @@ def refuse_taken(path: Path, overwrite: bool) -> None:
         raise ArgumentError(f"{path} is there already; --overwrite replaces it")
 
 
-def is_csv(path: Path) -> bool:
-    return path == STANDARD_OUTPUT or path.suffix.lower() == ".csv"
+def kind_of(path: Path) -> str:
+    """The extension that says of what kind a file is, without that of a compression."""
+    if path == STANDARD_OUTPUT:
+        return ".csv"
+    suffix = path.suffix.lower()
+    inner = Path(path.stem).suffix.lower()
+    return inner if suffix in COMPRESSED and inner in SEPARATORS else suffix
+
+
+def check_kind(output: Path, geometry: bool) -> None:
+    """Refuses what can't be written here, with geometries or as a table alone."""
+    kind = kind_of(output)
+    if kind in SEPARATORS:
+        return
+    if kind in NEEDED:
+        if not any(map(find_spec, NEEDED[kind])):
+            raise ArgumentError(f"a file {kind!r} needs the Python module "
+                                f"{' or '.join(NEEDED[kind])}, which is not installed")
+        return
+    driver_of(output)
+    if not geometry and kind not in TABLES:
+        tables = sorted([*SEPARATORS, *TABLES, *kinds_by_pandas()])
+        raise ArgumentError(f"a file {output.suffix!r} needs geometries: add --geometry, or write "
+                            f"one of {', '.join(tables)}")
+
+
+def kinds_by_pandas() -> List[str]:
+    """The extensions of what pandas writes here by other modules."""
+    return [kind for kind, modules in NEEDED.items() if any(map(find_spec, modules))]
 
 
 @contextmanager
@@ -48,20 +84,36 @@ def write(rows: Any, output: Path, overwrite: bool) -> None:
     if output == STANDARD_OUTPUT:
         print_csv(rows)
         return
-    if is_csv(output):
-        with placed(output, overwrite) as path:
-            rows.to_csv(path, index=False, lineterminator="\n")
-        return
-    driver = driver_of(output)
-    options = key_option(driver, rows.columns)
+    kind = kind_of(output)
     with placed(output, overwrite) as path:
+        if kind in SEPARATORS:
+            rows.to_csv(path, sep=SEPARATORS[kind], index=False, lineterminator="\n")
+            return
         try:
-            if "geometry" in rows.columns:
-                rows.to_file(path, driver=driver, **options)
+            if kind in NEEDED:
+                write_by_pandas(rows, path, kind)
             else:
-                write_table(rows, path, driver, options)
+                write_by_gdal(rows, path, driver_of(output))
         except Exception as fault:  # GDAL's faults have no common class
             raise RjoinError(f"{output} cannot be written: {fault}") from fault
+
+
+def write_by_pandas(rows: Any, path: Path, kind: str) -> None:
+    """Writes a file of columns or a sheet, in which geometries are texts."""
+    if kind in COLUMNAR:
+        {".parquet": rows.to_parquet, ".feather": rows.to_feather}[kind](path)
+        return
+    if "geometry" in rows.columns:
+        rows = rows.assign(geometry=rows["geometry"].to_wkt())
+    rows.to_excel(path, index=False)
+
+
+def write_by_gdal(rows: Any, path: Path, driver: str) -> None:
+    options = key_option(driver, rows.columns)
+    if "geometry" in rows.columns:
+        rows.to_file(path, driver=driver, **options)
+    else:
+        write_table(rows, path, driver, options)
 
 
 def print_csv(rows: Any) -> None:
@@ -95,7 +147,19 @@ def driver_of(output: Path) -> str:
 
         return str(driver_from_extension(output))
     except ValueError as fault:
-        raise ArgumentError(f"GDAL writes no files with the extension {output.suffix!r}") from fault
+        raise ArgumentError(f"GDAL writes no files with the extension {output.suffix!r} here; "
+                            f"known are {', '.join(known_extensions())}") from fault
+
+
+def known_extensions() -> List[str]:
+    """The extensions of what can be written here."""
+    if has_pyogrio():
+        found = [".gpkg", ".shp", ".geojson", ".json", ".fgb", ".gml", ".dbf"]
+    else:
+        from fiona.drvsupport import vector_driver_extensions
+
+        found = [f".{one}" for one in vector_driver_extensions()]
+    return sorted({*SEPARATORS, *kinds_by_pandas(), *found})
 
 
 def key_option(driver: str, names: Iterable[str]) -> Dict[str, str]:

@@ -7,7 +7,7 @@ import subprocess
 import warnings
 from typing import IO, NamedTuple, Optional, Sequence, Set, Tuple, Union
 
-from rjoin import found, signals
+from rjoin import found, progress, signals
 from rjoin.errors import ArgumentError, RjoinError, StaleProgramWarning
 
 Word = Union[str, "os.PathLike[str]"]
@@ -90,7 +90,7 @@ def ended(words: Sequence[Word], output: Union[int, IO[bytes]]) -> Tuple[int, by
         with signals.held():
             started.append(subprocess.Popen(words, stdin=subprocess.DEVNULL, stdout=output,
                                             stderr=subprocess.PIPE, env=environment))
-        answer, errors = started[0].communicate()
+        answer, errors = progress.communicated(started[0], words, output)
     except BaseException:
         for process in started:
             process.kill()

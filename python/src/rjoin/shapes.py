@@ -165,7 +165,11 @@ def simple_by_geos(geometries: Objects) -> Optional[Simple]:
 
     types = (geometry.Point, geometry.LineString, geometry.LinearRing, geometry.Polygon)
     kinds = dict(zip(types, KIND_OF_TYPE.tolist()))
-    kind = np.fromiter(map(kinds.get, map(type, geometries), repeat(0)), np.int64, geometries.size)
+    if len(set(map(type, geometries))) == 1:
+        kind = np.full(geometries.size, kinds.get(type(geometries[0]), 0), np.int64)
+    else:
+        kind = np.fromiter(map(kinds.get, map(type, geometries), repeat(0)), np.int64,
+                           geometries.size)
     library = ctypes.PyDLL(lgeos._lgeos._name)
     if not kind.all() or not hasattr(library, "GEOSCoordSeq_copyToBuffer_r"):
         return None

@@ -4,10 +4,14 @@ from __future__ import annotations
 import os
 import signal
 import sys
+import tempfile
 import threading
 from contextlib import contextmanager
 from dataclasses import dataclass
+from pathlib import Path
 from typing import Any, Dict, Iterator
+
+from rjoin.errors import RjoinError
 
 # How signals are handled where the caller has left them alone.
 STANDARD: Dict[signal.Signals, Any] = {
@@ -92,3 +96,20 @@ def held() -> Iterator[None]:
     if hold.came:
         number, hold.came = hold.came, 0
         end(number, None)
+
+
+@contextmanager
+def temporary_folder() -> Iterator[Path]:
+    """A folder that goes at the end, also where a signal ends the process."""
+    made = []
+    try:
+        with cleanly():
+            try:
+                with held():
+                    made.append(tempfile.TemporaryDirectory(prefix="rjoin-"))
+                yield Path(made[0].name)
+            finally:
+                for folder in made:
+                    folder.cleanup()
+    except OSError as fault:
+        raise RjoinError(f"temporary files: {fault.strerror or fault}") from fault

@@ -9,7 +9,7 @@ import warnings
 from typing import TYPE_CHECKING, Any, Dict, NamedTuple, Optional, Tuple
 
 from rjoin import relations
-from rjoin.calls import Decimals, Workers, reading_of
+from rjoin.calls import Decimals, Workers, auto_after, reading_of
 from rjoin.errors import ArgumentError
 
 if TYPE_CHECKING:
@@ -22,6 +22,8 @@ if TYPE_CHECKING:
 
 WITHIN = "dwithin"
 NEAREST = "nearest"
+# What the predicate None asks of envelopes.
+BY_ENVELOPES = "intersects"
 RENAMED = ("The `op` parameter is deprecated; GeoPandas 1 has it no longer. Please use the "
            "`predicate` parameter instead.")
 OVERRIDDEN = ("predicate={!r} was given beside op={!r}. The value of `predicate` will be "
@@ -29,12 +31,12 @@ OVERRIDDEN = ("predicate={!r} was given beside op={!r}. The value of `predicate`
 
 
 def sjoin(left: "geopandas.GeoDataFrame", right: "geopandas.GeoDataFrame",
-          predicate: str = "intersects", how: str = "inner", *, distance: Optional[float] = None,
+          predicate: Optional[str] = "intersects", how: str = "inner", *, distance: Any = None,
           on_attribute: Any = None, op: Optional[str] = None, scale: Optional[int] = None,
           decimals: Decimals = None, rings: str = "even-odd", workers: Workers = None,
           lsuffix: str = "left", rsuffix: str = "right", matrix: bool = False,
-          other: str = "error", missing: str = "error",
-          incomplete: str = "error") -> "geopandas.GeoDataFrame":
+          other: str = "error", missing: str = "error", incomplete: str = "error",
+          to_crs: bool = False) -> "geopandas.GeoDataFrame":
     """The rows of one frame beside the fields of each row of the other that they are related to.
 
     The columns and the index are those of geopandas.sjoin. With `how` as `"inner"` or `"left"` they
@@ -47,9 +49,10 @@ def sjoin(left: "geopandas.GeoDataFrame", right: "geopandas.GeoDataFrame",
     As there, a warning tells of two reference systems.
 
     predicate: intersects, touches, crosses, within, contains, overlaps, equals, covers, covered_by,
-    contains_properly, a DE-9IM mask, or dwithin, which is at most `distance` apart. None, by which
-    GeoPandas joins envelopes, is refused; `other="envelope"` joins them.
-    distance: one number, in the units of the coordinates, and rounded as these are.
+    contains_properly, a DE-9IM mask, or dwithin, which is at most `distance` apart. None joins
+    features whose envelopes share a point.
+    distance: in the units of the coordinates, and rounded as these are: one number, or one for each
+    left row, as a sequence or the name of a column.
     on_attribute: a column, or a list or tuple of columns, of both frames, whose values have to be
     equal too.
     op: the predicate, as GeoPandas had it before 1.
@@ -59,31 +62,31 @@ def sjoin(left: "geopandas.GeoDataFrame", right: "geopandas.GeoDataFrame",
     incomplete: what a left or right join does where features of the other side are left out, any of
     which may be the partner of a row without one: `"error"` raises an InputError, `"mark"` adds the
     column `known`, which is False in these rows.
+    to_crs: joins the right geometries as they are in the left frame's reference system, by
+    `GeoDataFrame.to_crs`. Then `decimals` is `"auto"` unless `scale` or `decimals` is given.
     """
     from rjoin import frames, joining
     from rjoin.lengths import Measure
-    from rjoin.sources import Rules
+    from rjoin.sources import Rules, right_of
 
     relation = predicate_of(predicate, op)
-    length = length_of(relation, distance, matrix)
-    if length is None:
-        relations.check(relation)
-    reading = reading_of(scale, decimals, rings, workers)
+    check_question(relation, distance, matrix)
     rules = frames.rules_of(how, frames.Suffixes(lsuffix, rsuffix), on_attribute)
     frames.check(left, right, rules)
     frames.check_incomplete(incomplete, how)
-    job = joining.job_of((("left", left), ("right", right)), reading,
-                         Rules(other, missing, keeps=True),
-                         measure=Measure((length,)) if length else None)
+    reading = reading_of(scale, auto_after(to_crs, scale, decimals), rings, workers)
+    length = length_of(distance, left)
+    treated = Rules("envelope" if relation is None else other, missing, keeps=True)
+    job = joining.job_of((("left", left), ("right", right_of(left, right, to_crs))), reading,
+                         treated, measure=Measure((length,), is_each(length)) if length else None)
+    if relation is None and other != "envelope":
+        job.forget_envelopes()
     if how != "inner" and incomplete == "error":
         job.refuse_incomplete(1 - rules.base, "how='inner', or incomplete='mark'")
     job.warn_of_crs(depth=1, unknown=True)
-    if length:
-        found = joining.within(job, length, workers)
-    else:
-        found = joining.joined(job, relation, workers, matrix)
+    found = pairs_of(job, relation or BY_ENVELOPES, length, workers, matrix)
     return result_of(job, (left, right), found, rules, Wanted(
-        relation, {"matrix": "matrix"} if matrix else {}, other == "envelope",
+        relation or BY_ENVELOPES, {"matrix": "matrix"} if matrix else {}, other == "envelope",
         incomplete == "mark"))
 
 
@@ -93,7 +96,7 @@ def sjoin_nearest(left: "geopandas.GeoDataFrame", right: "geopandas.GeoDataFrame
                   exclusive: bool = False, *, scale: Optional[int] = None,
                   decimals: Decimals = None, rings: str = "even-odd",
                   workers: Workers = None, other: str = "error", missing: str = "error",
-                  incomplete: str = "error") -> "geopandas.GeoDataFrame":
+                  incomplete: str = "error", to_crs: bool = False) -> "geopandas.GeoDataFrame":
     """The rows of one frame beside the fields of the nearest row of the other, or of several that
     are equally near.
 
@@ -111,24 +114,26 @@ def sjoin_nearest(left: "geopandas.GeoDataFrame", right: "geopandas.GeoDataFrame
     incomplete: what a join does where features of the other side are left out, any of which may be
     the nearest one: `"error"` raises an InputError, `"mark"` adds the column `known`, which is
     False in all rows then.
+    to_crs: as for `sjoin`.
     """
     from rjoin import frames, joining
     from rjoin.lengths import Measure
-    from rjoin.sources import Rules
+    from rjoin.sources import Rules, right_of
 
-    reading = reading_of(scale, decimals, rings, workers)
+    reading = reading_of(scale, auto_after(to_crs, scale, decimals), rings, workers)
     rules = frames.rules_of(how, frames.Suffixes(lsuffix, rsuffix))
     frames.check(left, right, rules)
     frames.check_incomplete(incomplete)
     length = reach_of(max_distance)
     lengths = (length,) if length else ()
+    others = right_of(left, right, to_crs)
     job = joining.job_of(
-        (("left", left), ("right", right)), reading, Rules(other, missing, keeps=True),
+        (("left", left), ("right", others)), reading, Rules(other, missing, keeps=True),
         measure=Measure(lengths, distance_col is not None and scale is None))
     if incomplete == "error":
         job.refuse_incomplete(1 - rules.base)
     job.warn_of_crs(depth=1, unknown=True)
-    for frame in (left, right):
+    for frame in (left, others):
         frame.geometry.values.check_geographic_crs(stacklevel=3)
     found = joining.nearest(job, rules.base, length, workers, exclusive)
     return result_of(job, (left, right), found, rules, Wanted(
@@ -187,7 +192,7 @@ def are_known(job: "Job", matches: "Matches", relation: str, base: int) -> "Flag
     return known
 
 
-def predicate_of(predicate: str, op: Optional[str]) -> str:
+def predicate_of(predicate: Optional[str], op: Optional[str]) -> Optional[str]:
     """The predicate, by either of its names."""
     if op is None:
         return predicate
@@ -198,20 +203,44 @@ def predicate_of(predicate: str, op: Optional[str]) -> str:
     return op
 
 
-def length_of(predicate: str, distance: Optional[float], matrix: bool) -> "Optional[Length]":
-    """The distance of a join by distance; None for other joins."""
-    from rjoin.lengths import Length
-
-    if predicate != WITHIN:
-        if distance is not None:
-            raise ArgumentError("'distance' parameter is only supported in combination with "
-                                "'dwithin' predicate")
-        return None
-    if distance is None:
+def check_question(predicate: Optional[str], distance: Any, matrix: bool) -> None:
+    """Refuses a predicate that is none, and what doesn't go with it."""
+    if predicate != WITHIN and distance is not None:
+        raise ArgumentError("'distance' parameter is only supported in combination with "
+                            "'dwithin' predicate")
+    if predicate == WITHIN and distance is None:
         raise ArgumentError("'distance' parameter is required for 'dwithin' predicate")
-    if matrix:
-        raise ArgumentError("matrix=True is for relations: 'dwithin' has no letters")
-    return Length("distance", distance)
+    if predicate is not None and predicate != WITHIN:
+        relations.check(predicate)
+    elif matrix:
+        raise ArgumentError(f"matrix=True is for relations: {predicate!r} has no letters")
+
+
+def length_of(distance: Any, left: Any) -> "Optional[Length]":
+    """The distance of a join by distance, or those of each left row; None for other joins."""
+    from rjoin import lengths
+
+    return None if distance is None else lengths.length_of("distance", distance, left)
+
+
+def is_each(length: "Length") -> bool:
+    """Whether there is a distance for each left row."""
+    from rjoin.lengths import Lengths
+
+    return isinstance(length, Lengths)
+
+
+def pairs_of(job: "Job", relation: str, length: "Optional[Length]", workers: Workers,
+             matrix: bool) -> Any:
+    """The report of the program."""
+    from rjoin import joining, reaches
+    from rjoin.lengths import Lengths
+
+    if isinstance(length, Lengths):
+        return reaches.within_each(job, length, workers)
+    if length:
+        return joining.within(job, length, workers)
+    return joining.joined(job, relation, workers, matrix)
 
 
 def reach_of(max_distance: Optional[float]) -> "Optional[Length]":

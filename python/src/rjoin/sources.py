@@ -15,7 +15,7 @@ import numpy as np
 import pandas
 from numpy.typing import NDArray
 
-from rjoin import decimals, files, sheet, texts
+from rjoin import binary, decimals, files, sheet, texts
 from rjoin.bodies import AnyBody, BoxBody, shapes_of
 from rjoin.decimals import Scale
 from rjoin.errors import ArgumentError, InputError, Notice
@@ -93,6 +93,11 @@ class Source(ABC):
     @property
     def needs_any(self) -> bool:
         """Whether it is known to have more than boxes."""
+        return False
+
+    @property
+    def has_binary(self) -> bool:
+        """Whether some of its texts are binary, whose decimals don't show in them."""
         return False
 
     def leave_out_dots(self, scale: Scale) -> None:
@@ -299,6 +304,10 @@ class TextSource(Source):
             return None
         return geometry_source(self.values, self.index, self.side, self.rules)
 
+    @property
+    def has_binary(self) -> bool:
+        return any(map(binary.is_binary, self.values))
+
     def needed_decimals(self) -> int:
         return decimals_of_texts(self, self.values.tolist())
 
@@ -345,6 +354,11 @@ class FileSource(Source):
         self.place = place
         self.rules = rules
 
+    @property
+    def has_binary(self) -> bool:
+        return files.may_have_binary(self.place) and any(
+            map(binary.is_binary, files.texts_of(self.place)))
+
     def needed_decimals(self) -> int:
         return decimals_of_texts(self, files.texts_of(self.place))
 
@@ -389,6 +403,26 @@ def source_of(layer: Any, side: str, rules: Rules) -> Source:
     return values_source(values, pandas.RangeIndex(len(values)), side, rules)
 
 
+def with_crs(layer: Any, side: str, rounds: bool) -> Any:
+    """The layer; a frame of that of a file which GDAL reads."""
+    if not isinstance(layer, (str, os.PathLike)):
+        return layer
+    place = files.place_of(layer, side)
+    return layer if files.is_plain(place) else files.read(place, side, rounds)
+
+
+def right_of(left: Any, right: Any, to_crs: bool) -> Any:
+    """The right layer, in the reference system of the left one where that is asked for."""
+    if not to_crs:
+        return right
+    unknown = [name for name, layer in (("left", left), ("right", right))
+               if getattr(layer, "crs", None) is None]
+    if unknown:
+        raise ArgumentError("to_crs needs the reference system of both layers, and that of the "
+                            f"{' and the '.join(unknown)} one is not known")
+    return right if left.crs == right.crs else right.to_crs(left.crs)
+
+
 def values_of(layer: Any, side: str) -> Objects:
     """The values of a sequence or another iterable, but not the parts of a geometry."""
     if not hasattr(layer, "geoms"):
@@ -401,9 +435,9 @@ def values_of(layer: Any, side: str) -> Objects:
 
 
 def file_source(path: "str | os.PathLike[str]", side: str, rules: Rules) -> Source:
-    place = files.place_of(path)
+    place = files.place_of(path, side)
     if place.layer is not None or not files.is_plain(place):
-        return source_of(files.read(path, side, rules.rounds), side, rules)
+        return source_of(files.read(place, side, rules.rounds), side, rules)
     if rules.refuse_all:
         return FileSource(side, place, rules)
     return plain_file_source(place, side, rules)
@@ -431,18 +465,16 @@ def has_shapely() -> bool:
 def values_source(values: Objects, index: pandas.Index, side: str,
                   rules: Rules) -> "GeometrySource | TextSource":
     """The input for geometries or texts, which the first value that is there tells."""
-    there = ~pandas.isna(values)
-    if not there.any():
+    kind = kind_of_all(values, side)
+    if kind is None:
         return GeometrySource(side, values, index, rules)
-    first = values[int(there.argmax())]
-    if not isinstance(first, str) and not hasattr(first, "geom_type"):
-        raise ArgumentError(f"{side} has no geometries but values of type {type(first).__name__}")
-    kind = type_of_all(first)
-    alike = np.fromiter(map(isinstance, values, repeat(kind)), np.bool_, len(values)) | ~there
-    if not alike.all():
-        row = int(alike.argmin())
-        raise InputError(side, f"a value of type {type(values[row]).__name__} among "
-                         f"{'texts' if kind is str else 'geometries'}", row + 1, index[row])
+    if not all(issubclass(found, kind) for found in set(map(type, values))):
+        alike = np.fromiter(map(isinstance, values, repeat(kind)), np.bool_, len(values))
+        alike |= pandas.isna(values)
+        if not alike.all():
+            row = int(alike.argmin())
+            raise InputError(side, f"a value of type {type(values[row]).__name__} among "
+                             f"{'texts' if kind is str else 'geometries'}", row + 1, index[row])
     if kind is str and rules.refuse_all:
         return TextSource(side, values, index, rules)
     if kind is str:
@@ -460,8 +492,15 @@ def geometry_source(values: Objects, index: pandas.Index, side: str,
     return source
 
 
-def type_of_all(first: Any) -> type:
-    """The type that all values of a layer have whose first one is a text or a geometry."""
+def kind_of_all(values: Objects, side: str) -> Optional[type]:
+    """The type of all values, as the first one that is there tells; None where none is there."""
+    there = ~pandas.isna(values[:1])
+    there = there if there.any() else ~pandas.isna(values)
+    if not there.any():
+        return None
+    first = values[int(there.argmax())]
+    if not isinstance(first, str) and not hasattr(first, "geom_type"):
+        raise ArgumentError(f"{side} has no geometries but values of type {type(first).__name__}")
     if isinstance(first, str):
         return str
     from shapely.geometry.base import BaseGeometry

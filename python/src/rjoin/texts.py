@@ -1,4 +1,5 @@
-"""Geometries as well-known text, read by Shapely.
+"""Geometries as texts that Shapely reads: well-known text, also with the number of a reference
+system as PostGIS has it, and hexadecimal well-known binary.
 
 GEOS reads more than a geometry: it overlooks what follows one, and takes hexadecimal numbers and
 NaN. Here a text is one geometry, in decimal numbers.
@@ -11,7 +12,7 @@ from typing import Any, Iterable, List, Optional, Sequence, Tuple
 import numpy as np
 import pandas
 
-from rjoin import decimals
+from rjoin import binary, decimals
 from rjoin.shapes import Objects
 
 NO_TEXT = "not a geometry text"
@@ -30,6 +31,8 @@ TOKENS = re.compile(rf"(?:\s|[(),]|{KIND}|{NOTHING}|{FREE}(?=[\s(),]))*",
                     re.ASCII | re.IGNORECASE)
 NUMBERS = re.compile(FREE, re.ASCII | re.IGNORECASE)
 FIRST_TWO = re.compile(rf"[(,]\s*({FREE})\s+({FREE})", re.ASCII | re.IGNORECASE)
+# What stands before a text in the extended form of PostGIS (EWKT).
+SRID = re.compile(r"\s*SRID\s*=\s*([0-9]{1,9})\s*;", re.ASCII | re.IGNORECASE)
 EMPTY = re.compile(rf"\s*{KIND}\s+EMPTY\s*", re.ASCII | re.IGNORECASE)
 FINE = re.compile(r"\.[0-9]{%d,}[1-9]" % decimals.MOST)
 EXPONENT = re.compile(r"[0-9.]E", re.IGNORECASE)
@@ -103,11 +106,13 @@ def too_fine(text: str) -> Optional[str]:
 
 
 def greatest(texts: Iterable[str]) -> float:
-    """A number that no coordinate of some texts exceeds by its absolute value.
+    """A number that no coordinate of some texts, but for those of binary, exceeds by its absolute
+    value.
 
     It is 0 where all are below a million; a height may count as a coordinate.
     """
-    great = (number for text in texts for number in GREAT.findall(text))
+    great = (number for text in texts if not binary.is_binary(text)
+             for number in GREAT.findall(text))
     return max(map(float, great), default=0.0)
 
 
@@ -129,6 +134,10 @@ def geometry_of(text: str, rounds: bool) -> Any:
     """The geometry of a text; a ValueError says why it is none."""
     from shapely import wkt
 
+    if binary.is_binary(text):
+        return binary_of(text)
+    named = SRID.match(text)
+    text = text[named.end():] if named else text
     if not is_whole(text):
         raise ValueError(NO_TEXT)
     reason = None if rounds else too_fine(text)
@@ -138,3 +147,19 @@ def geometry_of(text: str, rounds: bool) -> Any:
         return wkt.loads(text)
     except Exception as fault:
         raise ValueError(NO_TEXT) from fault
+
+
+def binary_of(text: str) -> Any:
+    """The geometry of hexadecimal well-known binary; a ValueError says that it is none."""
+    try:
+        return binary.geometry_of(text)
+    except Exception as fault:
+        raise ValueError(NO_TEXT) from fault
+
+
+def srid_of(text: str) -> int:
+    """The number of the reference system that a text names; 0 where it names none."""
+    if binary.is_binary(text):
+        return binary.srid_of(text)
+    named = SRID.match(text)
+    return int(named[1]) if named else 0

@@ -4,16 +4,17 @@ features of each block.
 from __future__ import annotations
 
 from dataclasses import dataclass, replace
-from typing import Optional
+from typing import BinaryIO, Optional
 
 import numpy as np
 
-from rjoin_cluster.answers import Boxes, Features, grown
+from rjoin_cluster.answers import Boxes, Features
 from rjoin_cluster.faults import RunFailed
+from rjoin_cluster.edits import NOBODY, Named, named_among
 from rjoin_cluster.ids import bucket_of, hashes_of, share_ends
 from rjoin_cluster.improper import Improper
 from rjoin_cluster.inputs import Input
-from rjoin_cluster.layout import Layout, save_rows
+from rjoin_cluster.layout import Layout, mapped, save_rows
 from rjoin_cluster.parts import MOST_PART, features_of
 from rjoin_cluster.program import Program, RowFault
 from rjoin_cluster.records import (
@@ -41,6 +42,7 @@ class Extent:
     number: int
     begin: int
     end: int
+    has_header: bool = False  # of its file, before the first record
 
     def __str__(self) -> str:
         return f"{self.side.value} block {self.number}, bytes {self.begin} to {self.end}"
@@ -63,9 +65,17 @@ class Extent:
         text = np.empty(self.size, dtype=np.uint8)
         with self.file.opened() as file:
             file.seek(self.begin)
-            if file.readinto(text.data) < text.size:
+            if filled(file, text) < text.size:
                 raise self.file.changed()
         return text
+
+
+def filled(file: BinaryIO, text: Bytes) -> int:
+    """Fills a text from a file, as far as this has bytes, and answers how many they are."""
+    rest, done = text.data, 0
+    while rest and (count := file.readinto(rest)):  # type: ignore[attr-defined]
+        rest, done = rest[count:], done + count
+    return done
 
 
 @dataclass(frozen=True)
@@ -76,9 +86,9 @@ class ReadJob:
     program: Program
     block: Extent
     share: float  # which part of its features is wanted as a sample
-    growth: int  # of boxes
     keeps_fields: bool  # the places of geometries, which are to travel as the file has them
     skips: bool  # records whose geometry can't be read
+    has_edits: bool = False  # whose ids are looked for
 
     def __str__(self) -> str:
         return str(self.block)
@@ -88,6 +98,7 @@ class ReadJob:
 class BlockRead:
     """What the features of a block come to; those before its first fault, if there is one."""
 
+    bytes: int  # of the block
     rows: int
     id_width: int
     greatest: int  # absolute value of a coordinate
@@ -96,6 +107,7 @@ class BlockRead:
     skipped: Skipped
     improper: Improper
     fault: Optional[RowFault]
+    named: Named  # by edits
 
     @property
     def records(self) -> int:
@@ -128,8 +140,8 @@ def scan_segment(extent: Extent) -> Segment:
 def read_block(job: ReadJob) -> BlockRead:
     """Reads the features of a block and keeps their boxes, ids and the hashes of these."""
     text = job.block.read()
-    read = features_of(job.program, job.block.number, text, job.skips)
-    boxes, ids, fault = grown(read.features.boxes, job.growth), read.features.ids, read.fault
+    read = features_of(job.program, job.block.has_header, text, job.skips)
+    boxes, ids, fault = read.features.boxes, read.features.ids, read.fault
     keep(job.layout, job.block, Features(ids, boxes))
     if job.keeps_fields and fault is None:
         fields = np.delete(fields_of(job.block, text), read.skipped.rows - 1, axis=0)
@@ -139,6 +151,7 @@ def read_block(job: ReadJob) -> BlockRead:
         fault = too_long(fields)
     least, greatest = int(boxes.min(initial=0)), int(boxes.max(initial=0))
     return BlockRead(
+        job.block.size,
         len(boxes),
         ids.shape[1],
         max(-least, greatest),
@@ -147,6 +160,7 @@ def read_block(job: ReadJob) -> BlockRead:
         read.skipped,
         read.improper,
         fault,
+        named_among(ids, mapped(job.layout.named(job.block.side))) if job.has_edits else NOBODY,
     )
 
 
@@ -163,7 +177,7 @@ def keep(layout: Layout, block: Extent, features: Features) -> None:
 def fields_of(block: Extent, text: Bytes) -> Places:
     """Where the geometry of each feature begins and ends in the file."""
     fields = second_fields(text) + block.begin
-    return fields if block.number else fields[1:]  # without the header
+    return fields[1:] if block.has_header else fields
 
 
 def too_long(fields: Places) -> Optional[RowFault]:

@@ -6,6 +6,7 @@ written without looking at single ones.
 from __future__ import annotations
 
 from dataclasses import dataclass
+from typing import Sequence
 
 import numpy as np
 
@@ -15,6 +16,7 @@ from rjoin_cluster.program import HEADER, MOST_BYTES, MOST_FEATURES
 from rjoin_cluster.records import Bytes, Places
 
 ROWS_AT_ONCE = 2**13  # which stay in the processor's cache
+MOST_COORDINATE = 10**12  # in units; the program takes none that is greater
 
 
 @dataclass(frozen=True)
@@ -51,6 +53,22 @@ class Form:
 POINT = Form("POINT(", ((0, 1),), ")")
 SEGMENT = Form("LINESTRING(", ((0, 1), (2, 3)), ")")
 RECTANGLE = Form("POLYGON((", ((0, 1), (2, 1), (2, 3), (0, 3), (0, 1)), "))")
+
+
+def moved(layers: Sequence[Boxes], numerals: Numerals) -> tuple[Sequence[Boxes], Numerals]:
+    """The boxes of a run, moved together towards the origin where their numbers get shorter by
+    that, and how these are written. Boxes that are moved together stand in the same relations.
+    """
+    corners = [boxes for boxes in layers if len(boxes)]
+    if len(corners) < len(layers):
+        return layers, numerals
+    low = np.min([boxes[:, :2].min(axis=0) for boxes in corners], axis=0)
+    high = np.max([boxes[:, 2:].max(axis=0) for boxes in corners], axis=0)
+    greatest = int((high - low).max())
+    near = Numerals(digits_in(greatest), False)
+    if near.width >= numerals.width or greatest > MOST_COORDINATE:
+        return layers, numerals
+    return [boxes - np.tile(low, 2) for boxes in layers], near
 
 
 def layer_text(boxes: Boxes, numerals: Numerals) -> Bytes:

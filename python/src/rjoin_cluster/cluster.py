@@ -46,6 +46,9 @@ def connected(place: Place, layout: Layout) -> Iterator[Watch]:
     """A watched client of the cluster, which has a worker at least."""
     silence_engine()
     dask.config.set({"distributed.comm.timeouts.connect": f"{place.patience:g}s"})
+    # dask looks at the stacks of its workers a hundred times a second, and who has no dashboard
+    # never sees what it found
+    dask.config.set({} if place.dashboard else {"distributed.worker.profile.interval": "1s"})
     if place.scheduler is None:
         with local_cluster(place, layout) as cluster, client_of(cluster, place) as client:
             try:

@@ -10,7 +10,7 @@ from contextlib import contextmanager
 from types import FrameType
 from typing import Any, Iterator, Optional, Sequence
 
-from rjoin_cluster.faults import JoinFault
+from rjoin_cluster.faults import JoinFault, RunFailed, one_line
 from rjoin_cluster.options import parser
 
 INTERRUPTS = (signal.SIGINT, signal.SIGTERM, signal.SIGHUP)
@@ -59,8 +59,8 @@ def main(arguments: Optional[Sequence[str]] = None) -> int:
     except JoinFault as fault:
         print(fault.line, file=sys.stderr)
         return fault.status
-    except OSError as fault:
-        print(f"rjoin-cluster: {fault}", file=sys.stderr)
+    except (OSError, RunFailed) as fault:  # of the command's own runs, which no other worker tries
+        print(f"rjoin-cluster: {one_line(fault)}", file=sys.stderr)
         return 1
     except Interrupted as interrupt:
         print("rjoin-cluster: interrupted", file=sys.stderr)
@@ -92,7 +92,7 @@ def joined(words: argparse.Namespace) -> dict[str, Any]:
     if words.skip is not None:
         counts = ", ".join(f"{side} {figures[side]['skipped']}" for side in ("left", "right"))
         progress.tell(f"rjoin-cluster: rows skipped: {counts}")
-    for side in ("left", "right"):
+    for side in [side for side in ("left", "right", "layer") if side in figures]:
         count, rows = figures[side]["improper"], figures[side]["improper_rows"]
         if count:
             progress.tell(f"rjoin-cluster: {improper_line(side, count, rows)}")

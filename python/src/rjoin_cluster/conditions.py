@@ -5,7 +5,7 @@ from dataclasses import dataclass
 from typing import Optional
 
 from rjoin_cluster.answers import read_answer
-from rjoin_cluster.commands import NEAREST, PAIRS
+from rjoin_cluster.commands import NEAREST, OF_ONE_LAYER, PAIRS
 from rjoin_cluster.program import HEADER, Program, RowFault
 
 MATRIX = "matrix"
@@ -20,7 +20,12 @@ class Condition:
 
     command: str
     words: tuple[str, ...]
-    distance: Optional[str] = None  # the greatest, where the command has one
+    distance: Optional[str] = None  # the greatest, where there is one
+    most: int = 1  # how many nearest features are sought
+
+    @property
+    def words_of_command(self) -> tuple[str, ...]:
+        return (self.command, *self.words)
 
     @property
     def is_nearest(self) -> bool:
@@ -34,7 +39,8 @@ class Condition:
             program.check_has(self.command, "--geometry")
         if PAIRS in self.words:
             program.check_has(self.command, PAIRS)
-        program.check_words([self.command, *self.words, *program.reading.words()])
+        words = [self.command, *self.words, *program.reading.words()]
+        program.check_words(words, 1 if self.command in OF_ONE_LAYER else 2)
 
 
 @dataclass(frozen=True)
@@ -62,11 +68,17 @@ def reach_of(condition: Condition, program: Program) -> Reach:
     """The reach of a condition that the program takes. A distance is printed with as many decimals
     as the scale has, and is at most that of the condition.
     """
+    if condition.is_nearest and condition.distance is None:
+        return Reach(0, DISTANCE, width_of(MOST_DISTANCE, program))
     if condition.distance is None:
         return Reach(0, "", 0) if PAIRS in condition.words else Reach(0, MATRIX, MATRIX_LETTERS)
     units = units_of(condition.distance, program)
-    digits = max(len(str(units)), int(program.reading.scale) + 1)
-    return Reach((units + 1) // 2, DISTANCE, digits + len("."))
+    return Reach((units + 1) // 2, DISTANCE, width_of(units, program))
+
+
+def width_of(units: int, program: Program) -> int:
+    """How many bytes a distance up to this one is printed in."""
+    return max(len(str(units)), int(program.reading.scale) + 1) + len(".")
 
 
 def units_of(distance: str, program: Program) -> int:

@@ -25,6 +25,7 @@ LEAST_PAIRS_OF_RUN = 400  # each part reads of each run
 MOST_PAIRS = 4_000_000
 PARTS_PER_WORKER = 4
 ROWS_AT_ONCE = 2**13  # which stay in the processor's cache
+NO_RUNS: Places = np.zeros(0, dtype=np.int64)
 
 
 @dataclass(frozen=True)
@@ -37,6 +38,8 @@ class PartJob:
     number: int
     right_features: int
     id_width: int  # of right ids
+    header: bytes  # before its rows, where the part is a file of the report
+    first_run: int = 0  # whose pairs are looked at
 
     def __str__(self) -> str:
         return f"part {self.number}"
@@ -50,21 +53,26 @@ class PartDone(NamedTuple):
 
 
 def plan_parts(layout: Layout, runs: Sequence[RunDone], workers: int) -> int:
-    """Keeps which pairs make up each part of the report, and answers how many parts there are.
-
-    For each border between parts and each run, the place of the border among the keys of the run
-    tells which pairs have to be looked at.
-    """
+    """Keeps which pairs make up each part of the report, and answers how many parts there are."""
     share = sum(run.pairs for run in runs) // max(1, workers * PARTS_PER_WORKER)
     least = max(LEAST_PAIRS, LEAST_PAIRS_OF_RUN * len(runs))
     borders = range_borders(runs, min(max(share, least), MOST_PAIRS))
+    save_ranges(layout, runs, borders)
+    return borders.size - 1
+
+
+def save_ranges(layout: Layout, runs: Sequence[RunDone], borders: Places) -> None:
+    """Keeps which pairs lie in each range of ranks.
+
+    For each border between ranges and each run, the place of the border among the keys of the run
+    tells which pairs have to be looked at.
+    """
     places = np.empty((borders.size, len(runs)), dtype=np.int32)
     for number, run in enumerate(runs):
         places[:, number] = np.searchsorted(run.keys, borders)
     save_array(layout.part_borders(), borders)
     save_array(layout.part_places(), places)
     save_array(layout.run_sizes(), np.array([run.pairs for run in runs], dtype=np.int64))
-    return borders.size - 1
 
 
 def range_borders(runs: Sequence[RunDone], pairs: int) -> Places:
@@ -77,19 +85,23 @@ def range_borders(runs: Sequence[RunDone], pairs: int) -> Places:
 
 def write_part(job: PartJob) -> PartDone:
     """Writes a part of the report, and answers what is in it."""
-    pairs = pairs_of(job)
+    pairs, runs = pairs_of(job)
+    if job.search is not None:
+        pairs = job.search.settled(pairs, runs)
     left = left_ids(job, pairs["rank"] // job.right_features)
     fields = [left, table_of(pairs["right"])]
     if job.reach.width:
         fields.append(table_of(pairs["last"]))
     chunks = [slice(begin, begin + ROWS_AT_ONCE) for begin in range(0, len(pairs), ROWS_AT_ONCE)]
-    text = [rows_text([field[some] for field in fields]) for some in chunks]
+    text = [job.header, *(rows_text([field[some] for field in fields]) for some in chunks)]
     save_bytes(job.layout.report_part(job.number), text)
     return PartDone(len(pairs), sum(map(len, text)))
 
 
-def pairs_of(job: PartJob) -> NDArray[np.void]:
-    """The pairs of the range, in order. Those around its borders are read too, and left out."""
+def pairs_of(job: PartJob) -> tuple[NDArray[np.void], Places]:
+    """The pairs of the range, in order, and their runs. Pairs around its borders are read too, and
+    left out.
+    """
     layout = job.layout
     borders = mapped(layout.part_borders())[job.number:job.number + 2]
     before, behind = mapped(layout.part_places())[job.number:job.number + 2].astype(np.int64)
@@ -101,16 +113,16 @@ def pairs_of(job: PartJob) -> NDArray[np.void]:
     done = 0
     for run in np.flatnonzero(counts).tolist():
         rows = pairs[done:done + counts[run]]
-        load_rows(layout.pairs(run), rows, int(begins[run]))
+        load_rows(layout.pairs(job.first_run + run), rows, int(begins[run]))
         done += len(rows)
     ranks = np.ascontiguousarray(pairs["rank"])
     order = np.argsort(ranks, kind="stable")
     begin, end = np.searchsorted(ranks, borders, sorter=order)
     own = order[begin:end]
-    if job.search is None:
-        return pairs.take(own)
-    runs = np.repeat(np.arange(counts.size), counts)
-    return job.search.settled(pairs.take(own), runs.take(own))
+    runs = NO_RUNS
+    if job.search is not None:
+        runs = np.repeat(job.first_run + np.arange(counts.size), counts).take(own)
+    return pairs.take(own), runs
 
 
 def left_ids(job: PartJob, numbers: Places) -> IdTable:

@@ -13,14 +13,13 @@ import numpy as np
 from numpy.typing import NDArray
 
 from rjoin_cluster.conditions import Condition, Reach
-from rjoin_cluster.inputs import Input
-from rjoin_cluster.layout import Layout
+from rjoin_cluster.layout import Layout, mapped
 from rjoin_cluster.plan import MOST_RECORDS_BYTES
 from rjoin_cluster.program import HEADER, Program, Text
 from rjoin_cluster.records import Places
 from rjoin_cluster.reports import rows_of
 from rjoin_cluster.sides import Side
-from rjoin_cluster.texts import ID_DIGITS, number_records, read_records, record_places
+from rjoin_cluster.texts import ID_DIGITS, RecordPlaces, number_records, record_places
 
 Pairs = NDArray[np.void]
 
@@ -35,13 +34,15 @@ class Search:
     program: Program
     condition: Condition
     reach: Reach
-    files: dict[Side, Input]
     right_features: int
+    widens: bool = False  # in rounds, of which for each left feature its last one tells
 
     def settled(self, pairs: Pairs, runs: Places) -> Pairs:
         """The nearest features of each left one, of all pairs of these left features, in order of
         their ranks, and of the runs that found them.
         """
+        if self.widens:
+            pairs, runs = self.of_last_round(pairs, runs)
         begins = np.flatnonzero(np.diff(pairs["rank"], prepend=-1))
         several = np.minimum.reduceat(runs, begins) < np.maximum.reduceat(runs, begins)
         unsettled = np.repeat(several, np.diff(begins, append=len(pairs)))
@@ -49,6 +50,16 @@ class Search:
             return pairs
         found: Pairs = np.concatenate([pairs[~unsettled], self.nearest(pairs[unsettled])])
         return found.take(np.argsort(found["rank"], kind="stable"))
+
+    def of_last_round(self, pairs: Pairs, runs: Places) -> tuple[Pairs, Places]:
+        """The pairs of each left feature that the last round in which it was has found."""
+        rounds = mapped(self.layout.run_rounds()).take(runs)
+        begins = np.flatnonzero(np.diff(pairs["rank"], prepend=-1))
+        if not begins.size:
+            return pairs, runs
+        counts = np.diff(begins, append=len(pairs))
+        own = np.flatnonzero(rounds == np.repeat(np.maximum.reduceat(rounds, begins), counts))
+        return pairs.take(own), runs.take(own)
 
     def nearest(self, pairs: Pairs) -> Pairs:
         """The nearest features of each left one among the right ones of all of these pairs."""
@@ -60,8 +71,7 @@ class Search:
             middle = begins[ranks.size // 2]
             return np.concatenate([self.nearest(pairs[:middle]), self.nearest(pairs[middle:])])
         words = [self.condition.command, *self.condition.words]
-        layers = (self.layer(Side.LEFT, left), self.layer(Side.RIGHT, right))
-        report = self.program.report(words, *layers, self.program.reading)
+        report = self.program.report(words, layer(left), layer(right), self.program.reading)
         found = rows_of(report, self.reach, ID_DIGITS, ID_DIGITS)
         ones, others, lasts = found.some(0, found.count)
         nearest: Pairs = pairs.take(rows.take(others))
@@ -69,12 +79,14 @@ class Search:
         nearest["last"] = lasts
         return nearest
 
-    def layer(self, side: Side, places: Places) -> list[Text]:
-        records = read_records(self.files[side], places)
-        number_records(records, places[:, 1] - places[:, 0])
-        return [HEADER, records.data]
+
+def layer(places: RecordPlaces) -> list[Text]:
+    """The records at these places, as a layer of a run."""
+    records = places.records()
+    number_records(records, places.lengths())
+    return [HEADER, records.data]
 
 
-def are_too_long(*layers: Places) -> bool:
+def are_too_long(*layers: RecordPlaces) -> bool:
     """Whether the records at these places are more than a run takes."""
-    return any((layer[:, 1] - layer[:, 0]).sum() > MOST_RECORDS_BYTES for layer in layers)
+    return any(places.lengths().sum() > MOST_RECORDS_BYTES for places in layers)

@@ -8,10 +8,10 @@ from dataclasses import dataclass
 from functools import lru_cache
 from typing import Callable, TypeVar
 
-from rjoin_cluster.faults import Unfit
-from rjoin_cluster.inputs import Input
+from rjoin_cluster.faults import JoinFault, Unfit
 from rjoin_cluster.layout import Layout, save_bytes
 from rjoin_cluster.program import Program
+from rjoin_cluster.sources import load_inputs
 
 Job = TypeVar("Job")
 Result = TypeVar("Result")
@@ -28,7 +28,7 @@ class Needs:
     layout: Layout
     program: Program
     version: str
-    files: tuple[Input, ...]
+    inputs: str = ""  # a sum of what is told of the layers' files in the folder
 
 
 @lru_cache(maxsize=JOINS)
@@ -51,6 +51,8 @@ def lack_of(needs: Needs) -> str:
         return lack_of_files(needs) or lack_of_room() or lack_of_program(needs)
     except OSError as cause:
         return f"{cause}{whose(cause)}"
+    except JoinFault as lack:  # of what opens URLs
+        return str(lack)
 
 
 def lack_of_files(needs: Needs) -> str:
@@ -58,8 +60,8 @@ def lack_of_files(needs: Needs) -> str:
         if token.read() != TOKEN:
             return f"{needs.layout.folder} is not the folder of the join"
     write_and_read(needs.layout)
-    for file in needs.files:
-        if not file.is_at_start(os.stat(file.path)):
+    for file in load_inputs(needs.layout):
+        if not file.is_at_start():
             return f"{file.path} is another file"
     return ""
 

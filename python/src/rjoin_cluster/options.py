@@ -3,17 +3,21 @@ from __future__ import annotations
 
 import argparse
 import os
-from typing import Any
+from typing import Any, Sequence
 
 from rjoin_cluster import __version__
-from rjoin_cluster.commands import JOIN, NEAR, NEAREST, PAIRS
+from rjoin_cluster.commands import BOUNDS, EDITS, JOIN, NEAR, NEAREST, PAIRS, STATS, WINDOW
 
 BLOCK_BYTES = 32 * 2**20
 MOST_SECONDS = 10**6
+OF_LAYERS = ("LEFT", "RIGHT")
+OF_LAYER = ("LAYER",)
 
 EPILOG = """\
-The report is that of one run of rjoin {command} over both files, which may have any number of
-features and bytes; the limits of a run are those of each tile. It appears whole, or not at all.
+The report is that of one run of rjoin {command} over the same layers, which may have any number of
+features, files and bytes; the limits of a run are those of each tile. It appears whole, or not at
+all. A pattern such as 'left-*.csv', in quotes, stands for the files whose names fit it, in their
+order; a URL such as s3://bucket/left.csv is read by the Python module fsspec.
 
 Exit status: 0 for success, 1 for a fault, with a line on standard error, 2 for invalid arguments,
 129, 130 and 143 where it was interrupted"""
@@ -44,9 +48,12 @@ def parser() -> argparse.ArgumentParser:
     )
     for command in (near, nearest):
         command.add_argument(
-            "--distance", required=True, metavar="D", help="greatest distance of a pair"
+            "--distance", required=command is near, metavar="D", help="greatest distance of a pair"
         )
-    for command in (by_relation, near, nearest):
+    of_two = (by_relation, near, nearest)
+    for command in of_two:
+        add_options_of_two_layers(command)
+    for command in (*of_two, *layer_commands(inner)):
         add_reading_options(command)
         add_cluster_options(command)
         add_tls_options(command)
@@ -54,7 +61,20 @@ def parser() -> argparse.ArgumentParser:
     return outer
 
 
-def add_command(commands: Any, name: str, text: str) -> argparse.ArgumentParser:
+def layer_commands(commands: Any) -> Sequence[argparse.ArgumentParser]:
+    """The commands of one layer."""
+    window = add_command(commands, WINDOW, "finds the features that meet a geometry", OF_LAYER)
+    window.add_argument("window", metavar="WKT", help="the geometry, as well-known text")
+    stats = add_command(commands, STATS, "counts the features by kind", OF_LAYER)
+    bounds = add_command(commands, BOUNDS, "writes the corners of the features", OF_LAYER)
+    for command in (window, stats, bounds):
+        command.set_defaults(edits=None, skip=None, files=False, tiles=None)
+    return window, stats, bounds
+
+
+def add_command(
+    commands: Any, name: str, text: str, layers: Sequence[str] = OF_LAYERS
+) -> argparse.ArgumentParser:
     """A command with the files that it reads and writes."""
     command: argparse.ArgumentParser = commands.add_parser(
         name,
@@ -62,16 +82,42 @@ def add_command(commands: Any, name: str, text: str) -> argparse.ArgumentParser:
         epilog=EPILOG.format(command=name),
         formatter_class=argparse.RawDescriptionHelpFormatter,
     )
-    command.add_argument("left", metavar="LEFT", help="CSV file of the left layer")
-    command.add_argument("right", metavar="RIGHT", help="CSV file of the right layer")
+    for layer in layers:
+        command.add_argument(
+            layer.lower(), metavar=layer, help="CSV file, pattern of CSV files, or URL of the layer"
+        )
     command.add_argument(
         "--out",
         required=True,
         type=file_name,
         metavar="REPORT",
-        help="file that the pairs are written to",
+        help="file or URL that the report is written to",
     )
     return command
+
+
+def add_options_of_two_layers(options: argparse.ArgumentParser) -> None:
+    """Options of joins alone."""
+    options.add_argument(
+        EDITS, metavar="FILE", help="CSV file of edits, which are applied before the join"
+    )
+    options.add_argument(
+        "--skip",
+        type=file_name,
+        metavar="FILE",
+        help="leave out rows whose geometry cannot be read, and list them in FILE",
+    )
+    options.add_argument(
+        "--tiles",
+        type=at_least_one,
+        metavar="N",
+        help="the least number of tiles (default: chosen by the data)",
+    )
+    options.add_argument(
+        "--files",
+        action="store_true",
+        help="make REPORT a folder of many files, each with the header, and a manifest",
+    )
 
 
 def add_reading_options(options: argparse.ArgumentParser) -> None:
@@ -88,12 +134,6 @@ def add_reading_options(options: argparse.ArgumentParser) -> None:
     options.add_argument(
         "--rings", metavar="RULE", help="rule for rings of any geometry: proper or even-odd"
     )
-    options.add_argument(
-        "--skip",
-        type=file_name,
-        metavar="FILE",
-        help="leave out rows whose geometry cannot be read, and list them in FILE",
-    )
 
 
 def add_cluster_options(options: argparse.ArgumentParser) -> None:
@@ -109,16 +149,17 @@ def add_cluster_options(options: argparse.ArgumentParser) -> None:
         metavar="N",
         help="workers on this machine, without a scheduler (default: one per core)",
     )
-    options.add_argument(
+    folders = options.add_mutually_exclusive_group()
+    folders.add_argument(
         "--folder",
         metavar="FOLDER",
         help="folder that all workers share, for temporary files (default: that of REPORT)",
     )
-    options.add_argument(
-        "--tiles",
-        type=at_least_one,
-        metavar="N",
-        help="the least number of tiles (default: chosen by the data)",
+    folders.add_argument(
+        "--resume",
+        metavar="FOLDER",
+        help="folder of this join, which all workers share and which stays where the join is ended:"
+        " the same command then goes on with what is there",
     )
     options.add_argument(
         "--block",

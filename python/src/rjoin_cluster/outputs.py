@@ -1,6 +1,7 @@
 """What a join makes: a report that appears as a whole, and a folder that vanishes."""
 from __future__ import annotations
 
+import json
 import os
 import shutil
 import stat
@@ -9,12 +10,15 @@ import uuid
 from contextlib import ExitStack, contextmanager, suppress
 from functools import partial
 from pathlib import Path
-from typing import BinaryIO, Iterator, Optional
+from typing import Any, BinaryIO, Iterator, Mapping, NamedTuple, Optional, Sequence, Union
 
 from rjoin_cluster.faults import JoinFault
 from rjoin_cluster.layout import Layout, unfinished
+from rjoin_cluster.remote import is_there, is_url, put, remove
 
 NEW_FILE = 0o666  # its mode, of which the user's mask takes its part
+MANIFEST = "manifest.json"
+COPY_BYTES = 2**24
 CLEANING_TRIES = 40
 CLEANING_PAUSE = 0.25
 
@@ -42,6 +46,28 @@ class Report:
             with told_of(self.path):
                 self.file.write(text)
 
+    def take(self, path: Path) -> None:
+        """Has the bytes of a finished file: is another name of it, or a copy where it lies on
+        another file system.
+        """
+        if self.file is None:
+            return
+        with told_of(self.path):
+            other = unfinished(self.part)
+            try:
+                os.link(path, other)
+            except OSError:
+                with open(path, "rb") as file:
+                    shutil.copyfileobj(file, self.file, COPY_BYTES)
+                return
+            try:
+                os.chmod(other, stat.S_IMODE(os.fstat(self.file.fileno()).st_mode))
+                os.replace(other, self.part)
+            finally:
+                other.unlink(missing_ok=True)
+            self.file.close()
+            self.file = open(self.part, "rb")
+
     def finish(self) -> None:
         """Gives the file the report's name."""
         if self.file is not None:
@@ -59,16 +85,132 @@ class Report:
             self.part.unlink()
 
 
+def link_or_copy(path: Path, other: Path, mode: int) -> None:
+    """Gives a file another name, or copies it where that lies on another file system."""
+    try:
+        os.link(path, other)
+    except OSError:
+        shutil.copyfile(path, other)
+    os.chmod(other, mode)
+
+
+class RemoteReport(Report):
+    """A report at a URL: it is written to a file in a folder, and put there in the end."""
+
+    def __init__(self, url: str, folder: str) -> None:
+        super().__init__(os.path.join(folder, "report"))
+        self.url = url
+
+    def finish(self) -> None:
+        if self.file is not None:
+            with told_of(self.url):
+                self.file.flush()
+                put(str(self.part), self.url)
+
+
+class Piece(NamedTuple):
+    """A file of a report of many files."""
+
+    path: Path
+    pairs: int
+    bytes: int
+
+
+class ReportFolder:
+    """A report of many files, in their order, with a manifest: a folder that appears as a whole."""
+
+    def __init__(self, path: str) -> None:
+        self.path = path
+        self.target = Path(os.path.abspath(path))
+        self.part = unfinished(self.target.with_name(f".{self.target.name}"))
+
+    def open(self) -> None:
+        if os.path.lexists(self.target):
+            raise JoinFault(f"{self.path}: is there already, and many files need a new name")
+        with told_of(self.path):
+            self.part.mkdir()
+
+    def take(self, pieces: Sequence[Piece], columns: Sequence[str]) -> None:
+        """Has finished files, and a manifest that lists them."""
+        mask = os.umask(0)
+        os.umask(mask)
+        files = []
+        with told_of(self.path):
+            for number, piece in enumerate(pieces):
+                name = f"part-{number:05}.csv"
+                link_or_copy(piece.path, self.part / name, NEW_FILE & ~mask)
+                files.append({"name": name, "pairs": piece.pairs, "bytes": piece.bytes})
+            (self.part / MANIFEST).write_text(manifest_of(files, columns), encoding="utf-8")
+
+    def finish(self) -> None:
+        """Gives the folder its name."""
+        with told_of(self.path):
+            for path in self.part.iterdir():
+                with open(path, "rb") as file:
+                    os.fsync(file.fileno())
+            os.rename(self.part, self.target)
+
+    def remove(self) -> None:
+        shutil.rmtree(self.part, ignore_errors=True)
+
+
+def manifest_of(files: Sequence[Mapping[str, Any]], columns: Sequence[str]) -> str:
+    """The text that lists the files of a report."""
+    pairs = sum(file["pairs"] for file in files)
+    manifest = {"columns": list(columns), "pairs": pairs, "files": files}
+    return json.dumps(manifest, indent=1) + "\n"
+
+
+class RemoteFolder:
+    """The same at a URL, where it is complete once it has its manifest."""
+
+    def __init__(self, url: str, folder: str) -> None:
+        self.url = url.rstrip("/")
+        self.part = unfinished(Path(os.path.abspath(folder), ".manifest"))
+
+    def open(self) -> None:
+        if is_there(self.url):
+            raise JoinFault(f"{self.url}: is there already, and many files need a new name")
+
+    def take(self, pieces: Sequence[Piece], columns: Sequence[str]) -> None:
+        """Puts finished files there, and keeps the manifest."""
+        files = []
+        with told_of(self.url):
+            for number, piece in enumerate(pieces):
+                name = f"part-{number:05}.csv"
+                put(str(piece.path), f"{self.url}/{name}")
+                files.append({"name": name, "pairs": piece.pairs, "bytes": piece.bytes})
+            self.part.write_text(manifest_of(files, columns), encoding="utf-8")
+
+    def finish(self) -> None:
+        with told_of(self.url):
+            put(str(self.part), f"{self.url}/{MANIFEST}")
+        self.part.unlink()
+
+    def remove(self) -> None:
+        """Takes away what has no manifest."""
+        if self.part.exists():
+            self.part.unlink()
+            remove(self.url)
+
+
+class Outputs(NamedTuple):
+    """What a join writes: its report, as one file or as many, and the list of skipped rows."""
+
+    report: Optional[Report]
+    files: Optional[Union[ReportFolder, RemoteFolder]]
+    skipped: Optional[Report]
+
+
 @contextmanager
-def new_report(path: str) -> Iterator[Report]:
-    """A report that appears where the join succeeds, and leaves nothing where it doesn't. Where the
-    path is a link, the report is what it leads to.
+def new_report_folder(
+    path: str, beside: str = os.curdir
+) -> Iterator[Union[ReportFolder, RemoteFolder]]:
+    """A report of many files that appears where the join succeeds. What is to be put to a URL is
+    made beside.
     """
-    if os.path.islink(path) and not os.path.exists(path):
-        raise JoinFault(f"{path}: a link that leads nowhere")
-    if os.path.exists(path) and not os.path.isfile(path):
-        raise JoinFault(f"{path}: not a regular file")
-    report = Report(path)
+    report: Union[ReportFolder, RemoteFolder]
+    report = RemoteFolder(path, beside) if is_url(path) else ReportFolder(path)
     try:
         report.open()
         yield report
@@ -78,12 +220,35 @@ def new_report(path: str) -> Iterator[Report]:
 
 
 @contextmanager
-def new_reports(*paths: str) -> Iterator[list[Report]]:
+def new_report(path: str, beside: str = os.curdir) -> Iterator[Report]:
+    """A report that appears where the join succeeds, and leaves nothing where it doesn't. Where the
+    path is a link, the report is what it leads to; where it is a URL, the report is made beside.
+    """
+    report = RemoteReport(path, beside) if is_url(path) else local_report(path)
+    try:
+        report.open()
+        yield report
+        report.finish()
+    finally:
+        report.remove()
+
+
+def local_report(path: str) -> Report:
+    """A report at a path that may be one."""
+    if os.path.islink(path) and not os.path.exists(path):
+        raise JoinFault(f"{path}: a link that leads nowhere")
+    if os.path.exists(path) and not os.path.isfile(path):
+        raise JoinFault(f"{path}: not a regular file")
+    return Report(path)
+
+
+@contextmanager
+def new_reports(*paths: str, beside: str = os.curdir) -> Iterator[list[Report]]:
     """Several reports, of which the last one gets its name first."""
     if len({os.path.realpath(path) for path in paths}) < len(paths):
         raise JoinFault(f"{paths[-1]}: is the report")
     with ExitStack() as stack:
-        yield [stack.enter_context(new_report(path)) for path in paths]
+        yield [stack.enter_context(new_report(path, beside)) for path in paths]
 
 
 @contextmanager

@@ -9,6 +9,7 @@ from typing import Iterator, Optional, Sequence
 import numpy as np
 
 from rjoin_cluster.answers import NO_FEATURES, Features, read_answer
+from rjoin_cluster.commands import BOUNDS
 from rjoin_cluster.faults import RunFailed
 from rjoin_cluster.ids import stacked
 from rjoin_cluster.improper import Improper, all_improper, improper_in
@@ -19,7 +20,7 @@ from rjoin_cluster.skipping import NOTHING, Skipped, all_skipped, skipped_in, wi
 
 MOST_PART = MOST_BYTES - len(HEADER)
 
-# Put before the first block, so that a second byte order mark stays part of the header.
+# Put before the first block of a file, so that a second byte order mark stays part of the header.
 NO_MARK = b"\n"
 
 FULL = "layer is full"  # as rjoin says it
@@ -35,30 +36,39 @@ class PartRead:
     skipped: Skipped = NOTHING
     fault: Optional[RowFault] = None
     improper: Improper = Improper()
+    answers: Sequence[Bytes] = ()  # of a command, where one is asked for
 
     @property
     def records(self) -> int:
         return len(self.features.boxes) + self.skipped.rows.size
 
 
-def features_of(program: Program, number: int, text: Bytes, skips: bool) -> PartRead:
-    """The features of the block of this number, or those before its first fault."""
-    before = HEADER if number else NO_MARK
+def features_of(
+    program: Program, has_header: bool, text: Bytes, skips: bool, asked: Sequence[str] = ()
+) -> PartRead:
+    """The features of a block, or those before its first fault, and the answers of a command of one
+    layer, where its words are given.
+    """
+    before = NO_MARK if has_header else HEADER
     if text.size <= MOST_PART and likely_records(text) < MOST_FEATURES:
-        read = read_part(program, before, text, skips)
+        read = read_part(program, before, text, skips, asked)
         if read.fault is None or read.fault.text != FULL:
             return read
-    return features_of_parts(program, before, text, skips)
+    return features_of_parts(program, before, text, skips, asked)
 
 
-def features_of_parts(program: Program, before: bytes, text: Bytes, skips: bool) -> PartRead:
+def features_of_parts(
+    program: Program, before: bytes, text: Bytes, skips: bool, asked: Sequence[str]
+) -> PartRead:
     """The same, of a block that is more than a run takes."""
     features, skipped, improper = [], [], []
+    answers: list[Bytes] = []
     rows = known = 0
     fault = None
     for part in parts_of_runs(text):
-        read = read_part(program, before, part, skips)
+        read = read_part(program, before, part, skips, asked)
         before = HEADER
+        answers += read.answers
         features.append(read.features)
         skipped.append(read.skipped.behind(rows))
         improper.append(read.improper.behind(known))
@@ -67,7 +77,8 @@ def features_of_parts(program: Program, before: bytes, text: Bytes, skips: bool)
             break
         rows += read.records
         known += len(read.features.boxes)
-    return PartRead(together(features), all_skipped(skipped), fault, all_improper(improper))
+    told = (all_skipped(skipped), fault, all_improper(improper))
+    return PartRead(together(features), *told, answers)
 
 
 def likely_records(text: Bytes) -> int:
@@ -95,14 +106,21 @@ def parts_of_runs(text: Bytes) -> Iterator[Bytes]:
         done = behind
 
 
-def read_part(program: Program, before: bytes, part: Bytes, skips: bool) -> PartRead:
+def read_part(
+    program: Program, before: bytes, part: Bytes, skips: bool, asked: Sequence[str]
+) -> PartRead:
     """The features of a part of a file, of which these bytes are to be read before it."""
     if part.size > MOST_PART:
         fault = RowFault(1, f"longer than {MOST_PART} bytes", "rjoin-cluster")
         return PartRead(NO_FEATURES, fault=fault)
     answer = program.bounds([before, part.data])
     if not isinstance(answer, RowFault):
-        return PartRead(read_answer(answer.output), improper=improper_in(answer.errors))
+        improper, features = improper_in(answer.errors), read_answer(answer.output)
+        if not asked:
+            return PartRead(features, improper=improper)
+        is_known = asked[0] == BOUNDS
+        text = answer.output if is_known else program.answer(asked, [before, part.data])
+        return PartRead(features, improper=improper, answers=[text])
     if skips and answer.text in GEOMETRY_FAULTS:
         return read_skipping(program, before, part)
     if answer.row == 0:

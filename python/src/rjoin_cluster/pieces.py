@@ -12,13 +12,14 @@ from typing import Any, NamedTuple, Optional, Sequence
 import numpy as np
 from numpy.typing import NDArray
 
-from rjoin_cluster.answers import Boxes
+from rjoin_cluster.answers import Boxes, grown
+from rjoin_cluster.choice import Choice
 from rjoin_cluster.ids import as_elements, load_ids, widened
-from rjoin_cluster.inputs import Input
+from rjoin_cluster.inputs import Files
 from rjoin_cluster.layout import Layout, load_rows, mapped, save_array, save_rows
 from rjoin_cluster.records import Bytes, Places
 from rjoin_cluster.sides import Side
-from rjoin_cluster.texts import GroupTexts, load_texts, save_texts
+from rjoin_cluster.texts import Texts, load_texts, parts_by_file, save_texts
 from rjoin_cluster.tiles import Tiles
 
 Rows = NDArray[np.void]
@@ -52,15 +53,14 @@ class DealJob:
     """A group of blocks whose features are to be dealt."""
 
     layout: Layout
-    file: Input
+    side: Side
+    files: Files  # of each of its blocks
     group: int
     first: int  # of its blocks
     behind: int
     cargo: Cargo
-
-    @property
-    def side(self) -> Side:
-        return self.file.side
+    growth: int  # of boxes, in units on each side
+    choice: Choice
 
     def __str__(self) -> str:
         return f"{self.side.value} blocks {self.first} to {self.behind - 1}"
@@ -101,8 +101,9 @@ def deal_blocks(job: DealJob) -> Dealt:
     boxes: Boxes = np.empty((firsts[-1] - firsts[0], 4), dtype=np.int64)
     for block, (first, behind) in enumerate(zip(firsts, firsts[1:]), job.first):
         load_rows(layout.boxes(job.side, block), boxes[first - firsts[0]:behind - firsts[0]])
+    boxes = grown(boxes, job.growth)
     tiles = Tiles(mapped(layout.tiles()))
-    dealt = dict(tiles.deal(boxes))
+    dealt = dict(tiles.deal(boxes, job.choice.rows_between(layout, job.side, job.first, firsts)))
     counts = np.zeros(tiles.count, dtype=np.int32)
     for tile, rows in dealt.items():
         counts[tile] = rows.size
@@ -124,7 +125,11 @@ def deal_texts(job: DealJob, firsts: list[int], order: Places, pieces: Rows) -> 
     """Writes the records of the features in the order of the pieces, which get the places; answers
     where each record ends.
     """
-    texts = GroupTexts(job.layout, job.file, firsts, job.first)
+    fields = []
+    for block, (first, behind) in enumerate(zip(firsts, firsts[1:]), job.first):
+        fields.append(np.empty((behind - first, 2), dtype=np.int64))
+        load_rows(job.layout.fields(job.side, block), fields[-1])
+    texts = Texts(parts_by_file(job.files, fields))
     lengths = texts.lengths().take(order)
     ends: Places = lengths.cumsum()
     pieces["place"] = ends - lengths

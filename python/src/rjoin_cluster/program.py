@@ -9,7 +9,8 @@ import tempfile
 import threading
 from contextlib import contextmanager
 from dataclasses import dataclass
-from typing import IO, Iterator, Optional, Sequence, Union
+from types import MappingProxyType
+from typing import IO, Iterator, Mapping, Optional, Sequence, Union
 
 import numpy as np
 
@@ -36,6 +37,7 @@ TUNABLES = ":".join(
 )
 
 Text = Union[bytes, memoryview]
+NO_FILES: Mapping[str, Sequence[Text]] = MappingProxyType({})
 
 
 @dataclass(frozen=True)
@@ -144,9 +146,9 @@ class Program:
         if option.encode() not in bytes(ended.output):
             raise JoinFault(f"{self.path}: this version has no {option} for {command}")
 
-    def check_words(self, words: Sequence[str]) -> None:
-        """Runs a command on two empty layers, so that rjoin itself judges its options."""
-        ended = self.run(words, [[HEADER], [HEADER]])
+    def check_words(self, words: Sequence[str], layers: int = 2) -> None:
+        """Runs a command on empty layers, so that rjoin itself judges its options."""
+        ended = self.run(words, [[HEADER]] * layers)
         if ended.status != 0:
             raise ProgramFault(ended.errors.rstrip("\n"), ended.status)
 
@@ -164,6 +166,13 @@ class Program:
             raise RunFailed(f"rjoin bounds: status {ended.status}: {ended.errors.strip()}")
         return RowFault(int(told.group(1)), told.group(2))
 
+    def answer(self, words: Sequence[str], layer: Sequence[Text]) -> Bytes:
+        """The answer of a command for a layer that has no fault."""
+        ended = self.run([*words, *self.reading.words()], [layer])
+        if ended.status != 0:
+            raise RunFailed(f"rjoin {words[0]}: status {ended.status}: {ended.errors.strip()}")
+        return ended.output
+
     def report(
         self, words: Sequence[str], left: Sequence[Text], right: Sequence[Text], reading: Reading
     ) -> Bytes:
@@ -173,18 +182,32 @@ class Program:
             raise RunFailed(f"rjoin {words[0]}: status {ended.status}: {ended.errors.strip()}")
         return ended.output
 
-    def run(self, words: Sequence[str], layers: Sequence[Sequence[Text]]) -> Ended:
-        """Runs a command with layers as its first arguments; each lies in a file without a name."""
-        files = [nameless_file(layer) for layer in layers]
+    def run(
+        self,
+        words: Sequence[str],
+        layers: Sequence[Sequence[Text]],
+        more: Mapping[str, Sequence[Text]] = NO_FILES,
+    ) -> Ended:
+        """Runs a command with layers as its first arguments, and more files as those of options;
+        each lies in a file without a name.
+        """
+        files: list[IO[bytes]] = []
         try:
-            return self.run_on(words, files)
+            for text in (*layers, *more.values()):
+                files.append(nameless_file(text))
+            others = files[len(layers):]
+            named = [f"{word}=/dev/fd/{file.fileno()}" for word, file in zip(more, others)]
+            return self.run_on([*words, *named], files[:len(layers)], others)
         finally:
             for file in files:
                 file.close()
 
-    def run_on(self, words: Sequence[str], files: Sequence[IO[bytes]]) -> Ended:
-        numbers = [file.fileno() for file in files]
-        command = [self.path, words[0], *(f"/dev/fd/{number}" for number in numbers), *words[1:]]
+    def run_on(
+        self, words: Sequence[str], layers: Sequence[IO[bytes]], others: Sequence[IO[bytes]]
+    ) -> Ended:
+        paths = [f"/dev/fd/{file.fileno()}" for file in layers]
+        command = [self.path, words[0], *paths, *words[1:]]
+        numbers = [file.fileno() for file in (*layers, *others)]
         with tempfile.TemporaryFile() as output, tempfile.TemporaryFile() as errors:
             status = RUNS.status_of(command, numbers, output, errors)
             errors.seek(0)

@@ -19,13 +19,12 @@ class Progress:
         sys.stderr.write(f"{text}\n")
 
     @contextmanager
-    def bar(self, name: str, total: int) -> Iterator[Callable[[int], None]]:
-        """Gives what shows how many tasks have ended."""
+    def bar(self, name: str) -> Iterator[Callable[[int, int], None]]:
+        """Gives what shows how many tasks of how many have ended."""
 
-        def show(done: int) -> None:
+        def show(done: int, total: int) -> None:
             self.draw(name, done, total)
 
-        show(0)
         try:
             yield show
         finally:

@@ -4,15 +4,16 @@ from __future__ import annotations
 import argparse
 import os
 from dataclasses import dataclass
-from typing import Optional
+from typing import Any, Optional
 
-from rjoin_cluster.commands import JOIN, NEAR, NEAREST, PAIRS
+from rjoin_cluster.commands import JOIN, NEAR, NEAREST, OF_ONE_LAYER, PAIRS, WINDOW
 from rjoin_cluster.conditions import Condition
 from rjoin_cluster.faults import JoinFault
 from rjoin_cluster.inputs import not_in_blocks
 from rjoin_cluster.program import Program, find_program
 from rjoin_cluster.reading import Reading
-from rjoin_cluster.sides import Side
+from rjoin_cluster.remote import is_url, path_of
+from rjoin_cluster.sides import SIDES, Side
 
 
 @dataclass(frozen=True)
@@ -41,14 +42,16 @@ class Place:
 class Request:
     """What is to be joined, and how."""
 
-    left: str
-    right: str
+    layers: dict[Side, str]  # paths, patterns of paths, or URLs
     condition: Condition
     report: str
+    edits: Optional[str]
     skip: Optional[str]  # the list of rows that are left out, as their geometry can't be read
     program: Program
     place: Place
     folder: str  # that all workers share
+    resume: Optional[str]  # the folder of the join, which stays where it is ended
+    has_files: bool  # whether the report is many files
     tiles: Optional[int]  # the least number, as far as the data can be cut
     block_bytes: int
 
@@ -57,33 +60,54 @@ class Request:
         """Whether geometries travel as the files have them: boxes that are joined are written anew
         from their corners, which takes less time.
         """
+        if self.condition.command in OF_ONE_LAYER:
+            return False
         return self.condition.command != JOIN or not self.program.reading.is_of_boxes
+
+    def described(self) -> dict[str, Any]:
+        """What makes it this join, beside its layers and the program: what its tasks depend on."""
+        condition = self.condition
+        return {
+            "options": [condition.command, *condition.words, *self.program.reading.words()],
+            "skipped rows": self.skip is not None,
+            "many files": self.has_files,
+            "tiles": self.tiles,
+            "block": self.block_bytes,
+        }
 
 
 def request_of(words: argparse.Namespace) -> Request:
+    is_of_one = words.command in OF_ONE_LAYER
+    layers = {Side.ONLY: words.layer} if is_of_one else dict(zip(SIDES, (words.left, words.right)))
+    beside = os.curdir if is_url(words.out) else os.path.dirname(os.path.abspath(words.out))
     return Request(
-        layer_path(Side.LEFT, words.left),
-        layer_path(Side.RIGHT, words.right),
+        {side: layer_path(side, word) for side, word in layers.items()},
         condition_of(words),
         words.out,
+        words.edits,
         words.skip,
         Program(find_program(words.program), reading_of(words)),
         place_of(words),
-        words.folder or os.path.dirname(os.path.abspath(words.out)),
+        words.folder or beside,
+        words.resume,
+        words.files,
         words.tiles,
         words.block,
     )
 
 
 def condition_of(words: argparse.Namespace) -> Condition:
+    if words.command in OF_ONE_LAYER:
+        return Condition(words.command, (words.window,) if words.command == WINDOW else ())
     if words.command == JOIN:
         pairs = (PAIRS,) if words.pairs else ()
         return Condition(JOIN, (f"--relation={words.relation}", *pairs))
-    distance = f"--distance={words.distance}"
+    distance = (f"--distance={words.distance}",) if words.distance is not None else ()
     if words.command == NEAR:
         apart = ("--apart",) if words.apart else ()
-        return Condition(NEAR, (distance, *apart), words.distance)
-    return Condition(NEAREST, (distance, f"--most={words.most}"), words.distance)
+        return Condition(NEAR, (*distance, *apart), words.distance)
+    most = int(words.most) if words.most.isdecimal() else 1  # else the program refuses it
+    return Condition(NEAREST, (*distance, f"--most={words.most}"), words.distance, most)
 
 
 def reading_of(words: argparse.Namespace) -> Reading:
@@ -91,10 +115,10 @@ def reading_of(words: argparse.Namespace) -> Reading:
 
 
 def layer_path(side: Side, word: str) -> str:
-    """The path by which every worker finds a layer; standard input belongs to the command alone."""
+    """A path by which every worker finds a layer; standard input belongs to the command alone."""
     if word == "-":
         raise not_in_blocks(side)
-    return os.path.abspath(word)
+    return path_of(word)
 
 
 def place_of(words: argparse.Namespace) -> Place:

@@ -11,6 +11,7 @@ its tile, and it is in no other.
 """
 from __future__ import annotations
 
+import enum
 import logging
 import time
 from dataclasses import dataclass
@@ -19,10 +20,12 @@ from typing import Any, Iterator, NamedTuple, Optional
 import numpy as np
 from numpy.typing import NDArray
 
-from rjoin_cluster.box_layers import Numerals, layer_text
+from rjoin_cluster.answers import Boxes
+from rjoin_cluster.box_layers import Numerals, layer_text, moved
+from rjoin_cluster.choice import ALL, Choice
 from rjoin_cluster.conditions import Condition, Reach
 from rjoin_cluster.digits import digits_in
-from rjoin_cluster.layout import Layout, new_file
+from rjoin_cluster.layout import Layout, mapped, new_file
 from rjoin_cluster.pieces import Cargo, Piece, Range, load_piece
 from rjoin_cluster.program import HEADER, Program, Text
 from rjoin_cluster.reading import UNITS
@@ -31,11 +34,20 @@ from rjoin_cluster.reports import ReportRows, rows_of
 from rjoin_cluster.sides import Side
 from rjoin_cluster.texts import ID_DIGITS, number_records
 from rjoin_cluster.tiles import Region
+from rjoin_cluster.whole import load_some, load_whole
 
 KEY_STEP = 256
 ROWS_AT_ONCE = 2**13  # which stay in the processor's cache
 
 log = logging.getLogger(__name__)
+
+
+class Source(enum.Enum):
+    """Where the features of a run come from."""
+
+    TILES = "tiles"  # to which they were dealt
+    LAYERS = "layers"  # as they stand there
+    LAST = "last"  # right ones as they stand there, and left ones of a list
 
 
 @dataclass(frozen=True)
@@ -54,6 +66,8 @@ class RunJob:
     left: Range
     right: Range
     right_features: int  # of the whole layer
+    source: Source = Source.TILES
+    choices: Optional[dict[Side, Choice]] = None  # where features are taken as they stand
 
     def __str__(self) -> str:
         return f"tile {self.tile}, run {self.number}"
@@ -93,8 +107,7 @@ def pair_type(width: int, id_width: int, is_nearest: bool) -> np.dtype[Any]:
 def join_tile(job: RunJob) -> RunDone:
     """Joins a tile and keeps the pairs that are its own, in order."""
     started = time.perf_counter()
-    left = load_piece(job.layout, Side.LEFT, job.tile, job.left, job.cargo[Side.LEFT])
-    right = load_piece(job.layout, Side.RIGHT, job.tile, job.right, job.cargo[Side.RIGHT])
+    left, right = features_of(job, Side.LEFT, job.left), features_of(job, Side.RIGHT, job.right)
     pairs, keys = keep_pairs(job, own_pairs(job, left, right, report_of(job, left, right)))
     seconds = time.perf_counter() - started
     log.info(
@@ -108,19 +121,37 @@ def join_tile(job: RunJob) -> RunDone:
     return RunDone(pairs, keys, seconds)
 
 
+def features_of(job: RunJob, side: Side, wanted: Range) -> Piece:
+    """The features of a side: those of a tile, or of the layer itself."""
+    cargo = job.cargo[side]
+    if job.source is Source.TILES:
+        return load_piece(job.layout, side, job.tile, wanted, cargo)
+    if job.source is Source.LAST and side is Side.LEFT:
+        numbers = np.array(mapped(job.layout.last_left())[wanted.begin:wanted.end])
+        return load_some(job.layout, side, numbers)
+    choice = ALL if job.choices is None else job.choices[side]
+    return load_whole(job.layout, side, wanted, cargo, choice)
+
+
 def report_of(job: RunJob, left: Piece, right: Piece) -> ReportRows:
     """The report of the proved program on the features of a tile."""
-    ones, others = (layer_of(piece, job.numerals) for piece in (left, right))
+    if job.numerals is None:
+        ones, others = (layer_of_records(piece) for piece in (left, right))
+    else:
+        boxes, numerals = moved([left.boxes, right.boxes], job.numerals)
+        ones, others = (layer_of_boxes(some, numerals) for some in boxes)
     reading = job.program.reading if job.numerals is None else UNITS
     words = [job.condition.command, *job.condition.words]
     report = job.program.report(words, ones.text, others.text, reading)
     return rows_of(report, job.reach, ones.id_digits, others.id_digits)
 
 
-def layer_of(piece: Piece, numerals: Optional[Numerals]) -> RunLayer:
-    if numerals is not None:
-        text = layer_text(piece.boxes, numerals)
-        return RunLayer([HEADER, text.data], digits_in(len(piece.boxes)))
+def layer_of_boxes(boxes: Boxes, numerals: Numerals) -> RunLayer:
+    text = layer_text(boxes, numerals)
+    return RunLayer([HEADER, text.data], digits_in(len(boxes)))
+
+
+def layer_of_records(piece: Piece) -> RunLayer:
     number_records(piece.records, piece.lengths)
     return RunLayer([HEADER, piece.records.data], ID_DIGITS)
 
@@ -129,13 +160,18 @@ def own_pairs(
     job: RunJob, left: Piece, right: Piece, rows: ReportRows
 ) -> Iterator[NDArray[np.void]]:
     """The pairs of a report whose reference point lies in the tile, some at a time."""
-    corners = [(left.boxes[:, axis].copy(), right.boxes[:, axis].copy()) for axis in (0, 1)]
+    is_inside = job.region.covers(left.boxes)  # a box that is, with all of its reference points
     for begin in range(0, rows.count, ROWS_AT_ONCE):
         ones, others, lasts = rows.some(begin, min(begin + ROWS_AT_ONCE, rows.count))
-        x, y = (np.maximum(one.take(ones), other.take(others)) for one, other in corners)
-        own = np.flatnonzero(job.region.holds(x, y))
-        ones, others = ones.take(own), others.take(own)
-        pairs = np.empty(own.size, dtype=job.pair)
+        is_own = is_inside.take(ones)
+        looked = np.flatnonzero(~is_own)
+        low = np.maximum(left.boxes[ones.take(looked), :2], right.boxes[others.take(looked), :2])
+        is_own[looked] = job.region.holds(low[:, 0], low[:, 1])
+        if not is_own.all():
+            own = np.flatnonzero(is_own)
+            ones, others = ones.take(own), others.take(own)
+            lasts = None if lasts is None else lasts.take(own)
+        pairs = np.empty(ones.size, dtype=job.pair)
         pairs["rank"] = left.numbers.take(ones) * job.right_features
         numbers = right.numbers.take(others)
         if job.condition.is_nearest:
@@ -143,7 +179,7 @@ def own_pairs(
         else:
             pairs["rank"] += numbers
         if lasts is not None:
-            pairs["last"] = lasts.take(own)
+            pairs["last"] = lasts
         if right.ids is not None:
             pairs["right"] = right.ids.take(others)
         yield pairs

@@ -39,6 +39,12 @@ class Region(NamedTuple):
         inside: Flags = (self.x1 <= x) & (x < self.x2) & (self.y1 <= y) & (y < self.y2)
         return inside
 
+    def covers(self, boxes: Boxes) -> Flags:
+        """Which boxes lie in the tile with all of their points."""
+        low, high = self.holds(boxes[:, 0], boxes[:, 1]), self.holds(boxes[:, 2], boxes[:, 3])
+        inside: Flags = low & high
+        return inside
+
 
 PLANE = Region(EVERYWHERE[0], EVERYWHERE[0], EVERYWHERE[1], EVERYWHERE[1])
 
@@ -80,10 +86,10 @@ class Tiles:
                 waiting += [(low, region.below(axis, cut)), (high, region.above(axis, cut))]
         return regions
 
-    def deal(self, boxes: Boxes) -> Iterator[tuple[int, Places]]:
-        """Each tile that some box meets, in any order, with the numbers of these boxes."""
+    def deal(self, boxes: Boxes, some: Places) -> Iterator[tuple[int, Places]]:
+        """Each tile that one of some boxes meets, in any order, with the numbers of these boxes."""
         ends = np.ascontiguousarray(boxes.T)
-        waiting = [(0, np.arange(len(boxes)))]
+        waiting = [(0, some)]
         while waiting:
             number, rows = waiting.pop()
             axis, cut, low, high = self.nodes[number].tolist()
