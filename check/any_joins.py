@@ -39,6 +39,8 @@ SECONDS = 600
 WORKERS = (1, 2, 4, 16)
 FEW_BOXES = 60
 MANY_BOXES = 1000
+# What a join writes in place of its report.
+OUTPUTS = (["--pairs"], ["--first"], ["--first", "--pairs"], ["--count"], ["--unmatched"])
 # What is asked of few boxes by their distances.
 DISTANCES = ("near --distance 3", "near --distance 7 --apart", "nearest", "nearest --most 3", "nearest --distance 0",
              "nearest --most 4294967295 --distance 6")
@@ -131,9 +133,10 @@ def small_joins(program: Path, count: int) -> Iterator[tuple[str, str | None]]:
     for number in range(count):
         join, source = any_layers.join_of(number), random.Random(number)
         awaited = plain_joins.answer(words_of(join, WORKERS[0], source), join.files.__getitem__)
-        alone = [*words_of(join, source.choice(WORKERS), source), "--pairs"]
-        pairs = plain_joins.answer(alone, join.files.__getitem__)
-        yield f"join {number} for pairs alone", wrong(ran(program, join.files, alone), pairs)
+        for output in OUTPUTS:
+            other = [*words_of(join, source.choice(WORKERS), source), *output]
+            plain = plain_joins.answer(other, join.files.__getitem__)
+            yield f"join {number} {' '.join(output)}", wrong(ran(program, join.files, other), plain)
         for workers in WORKERS:
             words = words_of(join, workers, source)
             yield f"{join.name}: {' '.join(words)}", wrong(ran(program, join.files, words), awaited)
@@ -181,9 +184,11 @@ def boxes(program: Path, size: int, relations: tuple[str, ...]) -> Iterator[tupl
     for kind in box_layers.KINDS:
         files = box_layers.files_of(kind, size)
         for relation in relations:
-            one, other = (ran(program, files, [*JOIN, relation, "--geometry", it]) for it in ("box", "any"))
-            why = wrong(one, one.stdout) or wrong(other, one.stdout)
-            yield f"{size} boxes, {kind}, {relation}", why
+            output = random.Random(f"{kind} {relation}").choice(OUTPUTS)
+            for words in ([*JOIN, relation], [*JOIN, relation, *output]):
+                one, other = (ran(program, files, [*words, "--geometry", it]) for it in ("box", "any"))
+                why = wrong(one, one.stdout) or wrong(other, one.stdout)
+                yield f"{size} boxes, {kind}, {' '.join(words)}", why
 
 
 def distances(program: Path) -> Iterator[tuple[str, str | None]]:

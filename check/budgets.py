@@ -7,7 +7,8 @@
 check/budgets.txt has a line for each crate that the gate proves: its name and the seconds that its proof took when the
 list was made. A crate may take twice as long, and a few seconds more. How fast the machine is is told by all crates of
 the run: by the median of their times beside those of the list. So a slower machine fails no crate, and what makes all
-crates slower by the same factor shows in the printed sums alone. The last line counts.
+crates slower by the same factor shows in the printed sums alone. A crate that `rt ci` has proved on this machine before
+isn't proved again, and has no time to judge. The last line counts.
 """
 import sys
 from pathlib import Path
@@ -71,9 +72,9 @@ def write(took: Seconds) -> int:
 
 
 def main(words: list[str]) -> int:
-    took = {crate: seconds for crate, seconds in seconds_in(TIMES).items() if crate in proved()}
-    if not took:
+    if not TIMES.is_file():
         sys.exit("budgets: check/proofs.py has written no times")
+    took = {crate: seconds for crate, seconds in seconds_in(TIMES).items() if crate in proved()}
     return write(took) if words == ["--write"] else judge(took, seconds_in(BUDGETS))
 
 

@@ -37,6 +37,8 @@ PROGRAM = ROOT / "crates/rjoin/out/rjoin"
 MOST_MINUTES = 170
 # How long what is stopped may take to end.
 GRACE_SECONDS = 20
+# How much the heavy lane gives way to the light one, whose parts wait for answers within a given time.
+NICE = 5
 # How long the lanes may print nothing before a line says which parts run.
 QUIET_SECONDS = 300
 PR_SET_CHILD_SUBREAPER = 36
@@ -97,7 +99,7 @@ PARTS = (
     Part("faults", ("check/faults.py",), 2),
     Part("definitions", ("check/definitions.py", "--check"), 2),
     Part("architecture", ("check/architecture.py", "--check"), 2),
-    Part("guarantees", ("check/guarantees.py",), 2),
+    Part("guarantees", ("check/guarantees.py", "--check"), 2),
     Part("readmes", ("check/readmes.py",), 2),
     Part("mutants", ("check/mutants.py", "--changed"), 110, Lane.HEAVY, whole=("check/mutants.py",)),
     Part("tested-mutants", ("check/tested_mutants.py", "--changed"), 45, Lane.HEAVY,
@@ -264,6 +266,8 @@ def printed_whole(printing: Lock) -> Iterator[BinaryIO]:
 def run_lane(parts: list[Part], deadline: float, results: Connection, printing: Lock) -> None:
     """Runs the parts of a lane one after the other, and sends how each ended."""
     own_what_is_left()
+    if parts[0].lane is Lane.HEAVY:
+        os.nice(NICE)
     try:
         for part in parts:
             with printed_whole(printing) as output:

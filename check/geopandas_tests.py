@@ -21,11 +21,7 @@ from typing import Any
 ROOT = Path(__file__).resolve().parents[1]
 PROGRAM = os.environ.get("RJOIN", str(ROOT / "crates/rjoin/out/rjoin"))
 # Tests by the beginnings of their names, and why they fail.
-OTHERWISE = {
-    "test_sjoin_dwithin[geo_left2": "a distance for each left feature",
-    "test_sjoin_dwithin[geo_left3": "a distance for each left feature",
-    "test_conflicting_column_with_suffix": "two columns of one name",
-}
+OTHERWISE: dict[str, str] = {}
 # What GeoPandas itself doesn't pass, and that it has no sjoin_nearest with Shapely 1.8.
 NO_TESTS = ("test_no_nearest_all", "test_no_overlapping_geometry", "test_sjoin_outer")
 GIVEN = {"decimals": "auto", "missing": "keep"}

@@ -1,12 +1,14 @@
 #!/usr/bin/env python3
-"""Compares the calls and clauses that GUARANTEES.md names with the contracts in the sources, both ways.
+"""Writes what GUARANTEES.md says of each public call, from its contract and the comments of its clauses.
 
-    check/guarantees.py       the status is 1 where the page names a call or a clause that isn't there, names a clause
-                                twice, or leaves one out
+    check/guarantees.py            writes that part of the page
+    check/guarantees.py --check    compares it with the sources; the status is 1 where they differ
 
-A line "- `CALL`, `CALL`: `clause` what it says; `clause` and `clause` what they say" stands below its crate's heading.
-Each call has each of the clauses; where no clause is named, the call has one, without a name. Several lines may name
-clauses of one call.
+A call has a line: its name, the first sentence of its documentation, and then the names of its clauses, each with the
+comment before it in the source. A comment is also that of the clauses that follow it without one. A clause without a
+name and without a comment is what the documentation says; a clause with a name has to have a comment. What follows
+`Terms:` in the README of a crate stands below the crate's heading. The page has all this between two comments; the rest
+of it is written by hand.
 """
 import re
 import sys
@@ -16,60 +18,67 @@ from pathlib import Path
 ROOT = Path(__file__).resolve().parent.parent
 sys.dont_write_bytecode = True
 sys.path.append(str(ROOT / "tools"))
-from contracts import public_calls, specified_crates  # noqa: E402
+from contracts import Call, public_calls, specified_crates  # noqa: E402
 
-HEADING = re.compile(r"^### `(\w+)`$")
-CALLS = re.compile(r"^- ((?:`[\w:]+`(?:, )?)+)(.*)$")
-CLAUSES = re.compile(r"^(?:and )?((?:`[a-z_]+`(?:, | and |(?= )))+)")
-
-
-def entries(page: str) -> Iterator[tuple[str, str, list[str]]]:
-    """Crate, call and clauses of each line of the part that says what is proved."""
-    crate = ""
-    for line in page.partition("\n## What is only tested")[0].split("\n"):
-        heading, found = HEADING.match(line), CALLS.match(line)
-        if heading:
-            crate = heading.group(1)
-        elif found:
-            parts = re.split(r"[:;] ", found.group(2))[1:]
-            leading = (CLAUSES.match(part) for part in parts)
-            clauses = [name for names in leading if names for name in re.findall(r"\w+", names.group(1))
-                       if name != "and"]
-            for call in re.findall(r"`([\w:]+)`", found.group(1)):
-                yield crate, call, clauses
+PAGE = ROOT / "docs/GUARANTEES.md"
+BEGIN = "<!-- check/guarantees.py writes what follows, from the contracts and the comments of their clauses -->\n"
+END = "<!-- the end of what check/guarantees.py writes -->\n"
+TERMS = re.compile(r"^Terms: (.*)$", re.MULTILINE)
+SENTENCE = re.compile(r"(.*?)\.(?=\s|$)(?!\s[a-z0-9])", re.DOTALL)
+LINK = re.compile(r"\[(`[^`]*`)\](?:\([^)]*\))?")
 
 
-def unlisted(crate: str, call: str, clauses: list[str], listed: set[str]) -> Iterator[str]:
-    """A line for each clause of a public call that the page leaves out."""
-    for clause in clauses:
-        if clause not in listed:
-            yield f"left out of {crate}: {call}" + (f", clause {clause}" if clause else "")
+def terms(crate: str) -> str:
+    """The words that the clauses of a crate's calls use, if its README explains them."""
+    page = ROOT / "crates" / crate / "README.md"
+    found = TERMS.search(page.read_text(encoding="utf-8")) if page.is_file() else None
+    return f"\n{found.group(1)}\n" if found else ""
+
+
+def subject(call: Call) -> str:
+    """The first sentence of a call's documentation, without its full stop."""
+    found = SENTENCE.match(call.documentation)
+    return LINK.sub(r"\1", found.group(1) if found else call.documentation)
+
+
+def promises(call: Call) -> Iterator[str]:
+    """The clauses of a call, each group with its comment."""
+    for names, comment in call.promises():
+        listed = ", ".join(f"`{name}`" for name in names if name)
+        if listed and not comment:
+            sys.exit(f"check/guarantees.py: {call.crate}: {call.name} has no comment of {listed}")
+        text = ": ".join(part for part in (listed, comment) if part)
+        if text:
+            yield text
+
+
+def line(call: Call) -> str:
+    """A call's line."""
+    texts = "; ".join(promises(call))
+    sentences = [f"{text[0].upper()}{text[1:]}." for text in (subject(call), texts) if text]
+    return f"- `{call.name}`{': ' if sentences else ''}{' '.join(sentences)}\n"
+
+
+def section(crate: str) -> str:
+    """What the page has of a crate, which is nothing if it promises nothing."""
+    lines = [line(call) for call in public_calls(crate) if call.promises()]
+    return f"\n### `{crate}`\n{terms(crate)}\n{''.join(lines)}" if lines else ""
 
 
 def main() -> int:
-    calls = {(call.crate, call.name): call.clauses() for crate in specified_crates() for call in public_calls(crate)}
-    page = Path(ROOT, "docs/GUARANTEES.md").read_text(encoding="utf-8")
-    listed: dict[tuple[str, str], set[str]] = {it: set() for it in calls}
-    named = 0
-    wrong: list[str] = []
-    for crate, call, clauses in entries(page):
-        if (crate, call) not in calls:
-            wrong.append(f"not in {crate}: {call}")
-            continue
-        for clause in clauses or [""]:
-            shown = f"clause {clause}" if clause else "a clause without a name"
-            named += 1
-            if clause not in calls[crate, call]:
-                wrong.append(f"not of {call} in {crate}: {shown}")
-            if clause in listed[crate, call]:
-                wrong.append(f"twice of {call} in {crate}: {shown}")
-            listed[crate, call].add(clause)
-    for (crate, call), clauses in calls.items():
-        wrong += unlisted(crate, call, clauses, listed[crate, call])
-    for line in wrong:
-        print(line)
-    print(f"guarantees: {named} clauses named, {len(wrong)} aren't there, stand twice or are left out")
-    return 1 if wrong else 0
+    head, _, rest = PAGE.read_text(encoding="utf-8").partition(BEGIN)
+    old, _, tail = rest.partition(END)
+    new = "".join(section(crate) for crate in specified_crates()) + "\n"
+    if sys.argv[1:] == ["--check"]:
+        is_same = old == new
+        print("guarantees: the page agrees with the contracts" if is_same
+              else "guarantees: the page differs from the contracts; run check/guarantees.py")
+        return 0 if is_same else 1
+    if sys.argv[1:]:
+        print(__doc__, file=sys.stderr)
+        return 2
+    PAGE.write_text(head + BEGIN + new + END + tail, encoding="utf-8")
+    return 0
 
 
 if __name__ == "__main__":

@@ -71,13 +71,14 @@ INSTALLED = {
                            "share/man/man1/rjoin-postgis.1.gz"),
 }
 FORMAT_OPTIONS = {"--geometry", "--rings", "--scale", "--round", "--help"}
-LAYER_OPTIONS = {"--edits", "--workers", "--batch", "--cut"}
-JOIN_OPTIONS = {"--relation", "--skip", *LAYER_OPTIONS, *FORMAT_OPTIONS}
+FILE_OPTIONS = {"--columns", "--delimiter", *FORMAT_OPTIONS}
+LAYER_OPTIONS = {"--edits", "--workers", "--batch", "--cut", "--skip", *FILE_OPTIONS}
+PRODUCT_OPTIONS = {"--pairs", "--first", "--count", "--unmatched"}
+JOIN_OPTIONS = {"--relation", *LAYER_OPTIONS}
 OPTIONS = {
-    "relate": FORMAT_OPTIONS, "join": {"--pairs", *JOIN_OPTIONS}, "draw": JOIN_OPTIONS, "window": FORMAT_OPTIONS,
-    "near": {"--distance", "--apart", "--skip", *LAYER_OPTIONS, *FORMAT_OPTIONS},
-    "nearest": {"--most", "--distance", "--skip", *LAYER_OPTIONS, *FORMAT_OPTIONS},
-    "stats": FORMAT_OPTIONS, "bounds": FORMAT_OPTIONS,
+    "relate": FORMAT_OPTIONS, "join": {*PRODUCT_OPTIONS, *JOIN_OPTIONS}, "draw": JOIN_OPTIONS,
+    "window": FILE_OPTIONS, "near": {"--distance", "--apart", *LAYER_OPTIONS},
+    "nearest": {"--most", "--distance", *LAYER_OPTIONS}, "stats": FILE_OPTIONS, "bounds": FILE_OPTIONS,
 }
 RELATIONS = {
     "intersects", "touches", "crosses", "within", "contains", "overlaps", "equals", "covers", "covered_by",

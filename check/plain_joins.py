@@ -15,12 +15,15 @@ import csv
 import io
 import math
 import re
+import struct
 import sys
+from collections import Counter
 from collections.abc import Callable, Iterator, Sequence
 from dataclasses import dataclass
 from fractions import Fraction
 from itertools import combinations
 from pathlib import Path
+from typing import Any
 
 ROOT = Path(__file__).resolve().parent.parent
 sys.path.append(str(ROOT / "crates/shape_tests/reference"))
@@ -32,6 +35,9 @@ from geometry_distances import rounded_root, square_of  # noqa: E402
 KINDS = {"POINT": POINTS, "LINESTRING": LINES, "POLYGON": AREAS}
 # A list of points with no list in it.
 LIST = re.compile(r"\(([^()]*)\)")
+# An SRID before a text, and the flag of one in binary.
+PREFIX = re.compile(r"^SRID=\d+;", re.IGNORECASE)
+SRID = 0x20000000
 # Geometries by their ids. What is inserted comes last, as in a layer, also where its id was deleted before.
 Layer = dict[str, Geometry]
 
@@ -61,10 +67,55 @@ class Scale:
 WHOLE = Scale()
 
 
+class Binary:
+    """The geometry of well-known binary, and of EWKB with an SRID, read from its start on."""
+
+    def __init__(self, content: bytes, scale: Scale) -> None:
+        self.content, self.scale = content, scale
+        self.order = "<"
+
+    def take(self, form: str) -> tuple[Any, ...]:
+        """The next values of this form, by the byte order of the geometry that is being read."""
+        size = struct.calcsize(self.order + form)
+        taken, self.content = self.content[:size], self.content[size:]
+        return struct.unpack(self.order + form, taken)
+
+    def code(self) -> int:
+        """The code of the geometry that begins here; an SRID is read over."""
+        [order] = self.take("B")
+        self.order = "<" if order else ">"
+        [code] = self.take("I")
+        if code & SRID:
+            self.take("I")
+        return int(code & ~SRID)
+
+    def points(self, count: int) -> list[Vertex]:
+        """So many points. A double is the number of its shortest decimal, which is that of `repr`."""
+        return [self.scale.vertex("{!r} {!r}".format(*self.take("dd"))) for _ in range(count)]
+
+    def lists(self, code: int) -> list[list[Vertex]]:
+        """The lists of points of a geometry with this code."""
+        if code > len(KINDS):
+            return [points for _ in range(self.take("I")[0]) for points in self.lists(self.code())]
+        if code == 1:
+            return [self.points(1)]
+        return [self.points(self.take("I")[0]) for _ in range(1 if code == 2 else self.take("I")[0])]
+
+
 def geometry_of(text: str, scale: Scale = WHOLE) -> Geometry:
-    """The geometry of a well-known text. Which polygon a ring belongs to doesn't matter to the even-odd rule."""
+    """The geometry of a well-known text, or of hexadecimal well-known binary. Which polygon a ring belongs to doesn't
+    matter to the even-odd rule."""
+    text = PREFIX.sub("", text.strip())
+    if text.startswith("0"):
+        binary = Binary(bytes.fromhex(text), scale)
+        code = binary.code()
+        return formed(list(KINDS.values())[(code - 1) % len(KINDS)], binary.lists(code))
     kind = KINDS[text.partition("(")[0].strip().upper().removeprefix("MULTI")]
-    lists = [[scale.vertex(point) for point in found.split(",")] for found in LIST.findall(text)]
+    return formed(kind, [[scale.vertex(point) for point in found.split(",")] for found in LIST.findall(text)])
+
+
+def formed(kind: int, lists: list[list[Vertex]]) -> Geometry:
+    """The geometry of a kind with these lists of points."""
     if kind == POINTS:
         return Geometry(kind, tuple((vertex,) for vertices in lists for vertex in vertices))
     return Geometry(kind, tuple(stepped(vertices) for vertices in lists))
@@ -162,6 +213,24 @@ def report(rows: Sequence[tuple[str, ...]]) -> bytes:
     return "".join(",".join(map(field_of, row)) + "\n" for row in rows).encode()
 
 
+def joined(left: Layer, right: Layer, asked: argparse.Namespace) -> bytes:
+    """What a join writes of its pairs: all of them or the first of each left feature, or of each left feature how many
+    it has, or that it has none."""
+    found = list(matches(left, right, asked.relation))
+    counts = Counter(one for one, _, _ in found)
+    if asked.count:
+        return report([("left", "count"), *((one, str(counts[one])) for one in left)])
+    if asked.unmatched:
+        return report([("left",), *((one,) for one in left if not counts[one])])
+    firsts: dict[str, tuple[str, str, str]] = {}
+    for record in found:
+        firsts.setdefault(record[0], record)
+    records = [("left", "right", "matrix"), *(firsts.values() if asked.first else found)]
+    if asked.pairs:
+        return report([record[:2] for record in records])
+    return report(records)
+
+
 def window(layer: Layer, geometry: Geometry) -> bytes:
     """The list of the features that share a point with a geometry."""
     names = (one for one, _, _ in matches(layer, {"": geometry}, "intersects"))
@@ -207,7 +276,8 @@ def options_of(words: list[str]) -> argparse.Namespace:
         command.add_argument("--round", action="store_true")
     commands.choices["window"].add_argument("wkt")
     commands.choices["join"].add_argument("--relation", required=True)
-    commands.choices["join"].add_argument("--pairs", action="store_true")
+    for flag in ("--pairs", "--first", "--count", "--unmatched"):
+        commands.choices["join"].add_argument(flag, action="store_true")
     commands.choices["near"].add_argument("--distance", required=True)
     commands.choices["near"].add_argument("--apart", action="store_true")
     commands.choices["nearest"].add_argument("--distance")
@@ -233,10 +303,7 @@ def answer(words: list[str], read: Callable[[str], bytes]) -> bytes:
         return report([("left", "right", "distance"), *near_pairs(first, others[0], options, scale)])
     if options.command == "nearest":
         return report([("left", "right", "distance"), *nearest_pairs(first, others[0], options, scale)])
-    found = [("left", "right", "matrix"), *matches(first, others[0], options.relation)]
-    if options.pairs:
-        return report([record[:2] for record in found])
-    return report(found)
+    return joined(first, others[0], options)
 
 
 def main(words: list[str]) -> int:

@@ -3,8 +3,9 @@
 
     check/readmes.py       the status is 1 where one is missing, longer, or names a file that isn't there
 
-A section `Decisions` may follow the five lines, with the choices that concern this crate alone: each is a paragraph
-that begins with what was chosen, in bold.
+A line that begins with `Terms:` isn't counted: it explains words of the crate's clauses, for GUARANTEES.md. A section
+`Decisions` may follow, with the choices that concern this crate alone: each is a paragraph that begins with what was
+chosen, in bold.
 """
 import re
 import sys
@@ -25,7 +26,7 @@ def faults(crate: Path) -> Iterator[str]:
         return
     text = page.read_text(encoding="utf-8")
     head, _, decisions = text.partition(DECISIONS)
-    if len(head.splitlines()) > MOST_LINES:
+    if sum(not line.startswith("Terms: ") for line in head.splitlines()) > MOST_LINES:
         yield f"has more than {MOST_LINES} lines above its decisions"
     for paragraph in decisions.split("\n\n") if decisions else ():
         if not paragraph.startswith("**"):

@@ -229,6 +229,9 @@ def commands() -> dict[str, list[str]]:
         "join with edits": [*join, "--edits", "edits.csv", "--workers", "3", "--batch", "1", "--cut", "8"],
         "join of many messages": ["join", "few.csv", "few.csv", "--relation", "equals", "--batch", "1"],
         "join for pairs alone": [*join, "--pairs"],
+        "join for first pairs": [*join, "--first"],
+        "join for counts": [*join, "--count"],
+        "join for features without a pair": [*join, "--unmatched"],
         "join refused": [*join, "--edits", "bad.csv"],
         "draw": ["draw", *join[1:]],
         "draw with edits": ["draw", *join[1:], "--edits", "edits.csv", "--workers", "3", "--batch", "1"],
@@ -252,6 +255,10 @@ def commands() -> dict[str, list[str]]:
         "join of any geometry with edits": ["join", *any_join, "--edits", "any-edits.csv", "--workers", "3",
                                             "--batch", "1"],
         "join of any geometry for pairs alone": ["join", *any_join, "--pairs"],
+        "join of any geometry for first pairs": ["join", *any_join, "--first"],
+        "join of any geometry for first pairs alone": ["join", *any_join, "--first", "--pairs"],
+        "join of any geometry for counts": ["join", *any_join, "--count"],
+        "join of any geometry for features without a pair": ["join", *any_join, "--unmatched"],
         "join of any geometry refused": ["join", *any_join, "--edits", "any-bad.csv"],
         "join by the even-odd rule": ["join", *even_odd],
         "draw of any geometry": ["draw", *any_join],
@@ -369,9 +376,14 @@ def file_cases() -> list[Case]:
         ("one-id.csv", rb"row 1: id must have 1 to 64 bytes of UTF-8"),
         ("one-text.csv", b"row 1: not a geometry text"),
         ("full.csv", b"row 1000001: layer is full"),
+        ("full-double.csv", b"row 1000001: id is already there"),
     ]:
         shown = f"a file {path[:20]!r}"
         cases.append(Case(shown, ["rjoin", "stats", path], b"rjoin: layer: " + line + b"\n"))
+    for path, line in [("full.csv", b"layer is full"), ("full-double.csv", b"id is already there")]:
+        words = ["rjoin", "join", path, "few.csv", "--relation", "equals", "--workers", "1"]
+        shown = f"a file {path!r} by one worker"
+        cases.append(Case(shown, words, b"rjoin: left: row 1000001: " + line + b"\n"))
     for at, side in enumerate((b"left", b"right", b"edits")):
         words = ["rjoin", "join", "parcels.csv", "roads.csv", "--edits", "edits.csv", "--relation", "touches"]
         words[[2, 3, 5][at]] = "."
@@ -484,6 +496,7 @@ def write_files(room: str) -> None:
     write_file("one-id.csv", f"id,wkt\n{word},POINT (0 0)")
     write_file("one-text.csv", "id,wkt\na," + word)
     write_file("full.csv", points(1_000_001, "POINT ({} 0)"))
+    write_file("full-double.csv", points(1_000_000, "POINT ({} 0)") + "0,POINT (0 0)\n")
     write_file("half.csv", points(500_000, "POINT ({} 0)"))
     write_file("crowd.csv", points(IN_CROWD, "POINT (0 0)"))
     write_file("throng.csv", points(2 * IN_CROWD, "POINT (0 0)"))

@@ -134,6 +134,21 @@ def layer(rows: list[tuple[str, str]]) -> bytes:
     return "".join(["id,wkt\n", *(f'{name},"{wkt}"\n' for name, wkt in rows)]).encode()
 
 
+def long_runs_by_columns(squares: list[tuple[str, str]], corners: list[str]) -> Iterator[Run]:
+    """Makes runs over these squares in a file with other columns too, with and without the names of the squares."""
+    rows = "".join(f'"{wkt}",a,{name}\n' for name, wkt in squares)
+    bounds = "".join(["id,x1,y1,x2,y2\n", *corners]).encode()
+    files = {"layer.csv": f"shape,note,name\n{rows}".encode()}
+    yield Run("long-bounds-by-columns", ["bounds", "layer.csv", "--columns", "name,shape"], files, stdout=bounds)
+    numbered = [f"{n},{line.partition(',')[2]}" for n, line in enumerate(corners, 1)]
+    bounds = "".join(["id,x1,y1,x2,y2\n", *numbered]).encode()
+    yield Run("long-bounds-of-rows-without-ids", ["bounds", "layer.csv", "--columns", "shape"], files, stdout=bounds)
+    tabs = "".join(f"{wkt}\ta\t{name}\n" for name, wkt in squares)
+    files = {"layer.tsv": f"shape\tnote\tname\n{tabs}".encode()}
+    words = ["bounds", "layer.tsv", "--columns", "shape", "--delimiter", "tab"]
+    yield Run("long-bounds-of-rows-with-tabs", words, files, stdout=bounds)
+
+
 def long_runs() -> Iterator[Run]:
     """Makes runs over files of some hundred kilobytes, whose answers follow by arithmetic.
 
@@ -161,6 +176,7 @@ def long_runs() -> Iterator[Run]:
         words = [*join, "--pairs", "--workers", workers]
         yield Run(f"long-join-of-pairs-by-{workers}", words, files, stdout=alone)
     yield Run("long-join-of-standard-input", ["join", "-", *join[2:]], files, stdin=left, stdout=report)
+    yield from long_runs_by_columns(squares, corners)
     last = f"POINT ({10 * MANY - 6} {(MANY - 1) % 5})"
     yield Run("long-window", ["window", "right.csv", last], files, stdout=f"id\np{MANY - 1}\n".encode())
     # A node has at most eight items, so the tree has 2,500 leaves, then 313, 40 and 5 nodes, and the root.

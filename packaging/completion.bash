@@ -17,7 +17,8 @@ _rjoin() {
     --rings) offered="proper even-odd" ;;
     --edits | --skip) _filedir && return ;;
     --workers) offered="auto" ;;
-    --distance | --most | --batch | --cut) return ;;
+    --delimiter) offered="tab" ;;
+    --distance | --most | --batch | --cut | --columns) return ;;
     *)
         if [[ $cword -eq 1 && $cur == -* ]]; then
             offered=$(_parse_help "$program")

@@ -11,18 +11,45 @@ MODULES = re.compile(r"^pub mod (\w+);", re.MULTILINE)
 BLOCK = re.compile(r"^(pub trait|impl)(?:<.*?>)? ?(?:.* for )?(\w+)")
 CALL = re.compile(r"^ *(pub )?fn (\w+)")
 CLAUSE = re.compile(r"\bensures (\w*) ?\{")
+CONTRACT_END = re.compile(r"(^ *\{\}?|;| \{|\{\})$")
+COMMENT = re.compile(r"^ *// ?(.*)$")
+DOCUMENTATION = re.compile(r"^ */// ?(.*)$")
+ATTRIBUTE = re.compile(r"^ *#\[")
 
 
 class Call(NamedTuple):
-    """A public call: its crate, its name as in `Layer::insert`, its contract, and the text of its file."""
+    """A public call: its crate, its name as in `Layer::insert`, its documentation and contract, and the text of its
+    file."""
     crate: str
     name: str
-    contract: str
+    documentation: str
+    lines: list[str]
     source: str
+
+    @property
+    def contract(self) -> str:
+        """The contract without its comments."""
+        return "\n".join(line for line in self.lines if not COMMENT.match(line))
 
     def clauses(self) -> list[str]:
         """The names of what it promises, and an empty one for a clause without a name."""
         return CLAUSE.findall(self.contract)
+
+    def promises(self) -> list[tuple[list[str], str]]:
+        """The names of what it promises, each group of them with the comment before it."""
+        groups: list[tuple[list[str], str]] = []
+        comment: list[str] = []
+        for line in self.lines:
+            remark, clause = COMMENT.match(line), CLAUSE.search(line)
+            if remark:
+                comment.append(remark.group(1))
+                continue
+            if clause and (comment or not groups):
+                groups.append(([clause.group(1)], " ".join(comment)))
+            elif clause:
+                groups[-1][0].append(clause.group(1))
+            comment = []
+        return groups
 
 
 def specified_crates() -> list[str]:
@@ -47,8 +74,13 @@ def calls_of_file(crate: str, path: Path) -> Iterator[Call]:
     """The calls of a file that are marked as public, and those of its public traits."""
     text = path.read_text(encoding="utf-8")
     owner, in_trait = "", False
+    documentation: list[str] = []
     lines = iter(text.split("\n"))
     for line in lines:
+        remark = DOCUMENTATION.match(line)
+        if remark:
+            documentation.append(remark.group(1))
+            continue
         block = BLOCK.match(line)
         if block and not line.endswith("{}"):
             in_trait, owner = block.group(1) == "pub trait", f"{block.group(2)}::"
@@ -57,6 +89,9 @@ def calls_of_file(crate: str, path: Path) -> Iterator[Call]:
         call = CALL.match(line)
         if call and (call.group(1) or in_trait):
             contract = [line]
-            while not re.search(r"(^ *\{\}?|;| \{|\{\})$", contract[-1]):
+            while COMMENT.match(contract[-1]) or not CONTRACT_END.search(contract[-1]):
                 contract.append(next(lines))
-            yield Call(crate, owner + call.group(2), "\n".join(contract), text)
+            said = " ".join(documentation).partition("  ")[0]
+            yield Call(crate, owner + call.group(2), said, contract, text)
+        if not ATTRIBUTE.match(line):
+            documentation = []

@@ -25,6 +25,8 @@ pub fn relate_boxes(first: &Geometry, second: &Geometry) -> Option<Matrix>
 /// The shape with the same interior, boundary and exterior as a geometry, if the geometry is a
 /// point, a segment along an axis, or the ring of a rectangle through its four corners alone.
 pub fn as_box(geometry: &Geometry) -> Option<Shape>
+    // a shape has the same interior, boundary and exterior as the geometry, point by point. That it
+    // finds each box is only tested
     ensures { IfSome result (λ s. HasPartsOf s geometry.now) }
 {
     if geometry.path_count() != 1 {

@@ -13,6 +13,10 @@ ghost use Rattle.agreement_core.specs.BoxFigures.{IsBoxFigure};
 /// ends of their intervals.
 #[tactic(auto, using(crate::proofs::StraightLemmas::agreement_of_boxes))]
 pub fn agreement_law()
+    // the matrix of two points, axis-parallel segments or rectangles by cells is the matrix of
+    // their geometries by points of the plane: of polylines along a segment from either end, and of
+    // rings around a rectangle from any vertex and in either direction, with any number of vertices
+    // along them
     ensures { (a b : Shape) (g h : Figure) (m : Matrix) → IsBoxFigure a g → IsBoxFigure b h
         → IsMatrix a b m → IsPlaneMatrix g h m }
 {}

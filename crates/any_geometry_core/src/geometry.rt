@@ -27,8 +27,11 @@ impl AnyGeometry {
     /// The geometry with its envelope, if the rule allows its rings.
     pub fn new(geometry: Geometry, rings: Rings) -> AnyGeometry
         requires { TakesRings rings geometry }
+        // it has this geometry
         ensures figure { figure_of result ≡ geometry }
+        // this rule for its rings
         ensures rings { rings_of result ≡ rings }
+        // its box is the least that holds all vertices
         ensures bounds { IsLeastBox geometry (box_of result) }
     {
         let bounds = geometry.bounds();

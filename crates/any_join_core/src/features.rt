@@ -2,7 +2,10 @@
 
 use crate::matching::{PreparedPair, related};
 use crate::prepared::PreparedLayer;
+use any_geometry_core::AnyGeometry;
 use any_relation_core::AnyRelation;
+use layer_core::Layer;
+use pair_core::Side;
 use refine_core::Condition;
 use relation_core::Matrix;
 use std::alloc::{AllocError, Global};
@@ -16,24 +19,35 @@ pub struct RelatedFeatures<'a> {
 }
 
 impl<'a> RelatedFeatures<'a> {
-    ghost use Rattle.std.specs.Prelude.{◌≡◌};
+    ghost use Rattle.std.specs.Prelude.{◌≡◌, IfOk};
     ghost use Rattle.any_join_core.specs.Conditions.{left_of, right_of, wanted};
 
-    /// The relation of the features of these layers.
+    /// The relation of the features of these layers, of which the large geometries are prepared that
+    /// occur in several of the candidates.
+    ///
+    /// # Errors
+    /// If an allocation fails.
     pub fn new(
-        left: PreparedLayer<'a>,
-        right: PreparedLayer<'a>,
+        alloc: Global,
+        left: &'a Layer<AnyGeometry>,
+        right: &'a Layer<AnyGeometry>,
+        candidates: &[(u32, u32)],
         relation: &'a AnyRelation,
-    ) -> RelatedFeatures<'a>
-        ensures left { left_of result ≡ left.entry }
-        ensures right { right_of result ≡ right.entry }
-        ensures relation { wanted result ≡ relation.now }
+    ) -> Result<RelatedFeatures<'a>, AllocError>
+        // the condition is on these layers
+        ensures left { IfOk result (λ c. left_of c ≡ left.now.list) }
+        ensures right { IfOk result (λ c. right_of c ≡ right.now.list) }
+        // by this relation. The law of both, `stands_near`: features that stand in the relation
+        // have boxes that meet
+        ensures relation { IfOk result (λ c. wanted c ≡ relation.now) }
     {
-        RelatedFeatures {
+        let left = PreparedLayer::new(alloc, left, candidates, Side::Left)?;
+        let right = PreparedLayer::new(alloc, right, candidates, Side::Right)?;
+        Ok(RelatedFeatures {
             left,
             right,
             relation,
-        }
+        })
     }
 }
 

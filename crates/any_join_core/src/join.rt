@@ -10,12 +10,11 @@ ghost use Rattle.any_join_core.specs.Matches.{AreRelated, BoxesMeet, HasMatrix};
 
 use crate::features::RelatedFeatures;
 use crate::outcome::AnyOutcome;
-use crate::prepared::PreparedLayer;
 use any_geometry_core::AnyGeometry;
 use any_relation_core::AnyRelation;
 use filter_core::meeting_layers;
 use layer_core::Layer;
-use pair_core::{Options, Side};
+use pair_core::Options;
 use parallel_core::JoinFault;
 use refine_core::refine_pairs;
 use relation_core::Matrix;
@@ -39,22 +38,26 @@ pub fn join_any<R: AllocGlobal + Threads + Wait + Sync>(
     relation: &AnyRelation,
     options: &Options,
 ) -> Result<AnyOutcome<Matrix>, JoinFault>
+    // over every schedule, exactly the pairs of a left and a right feature that stand in the
+    // relation, each once, in layer order
     ensures pairs { let related = StandIn (AreRelated relation.now) left.now.list right.now.list in
         IfOk result (λ outcome. IsJoinList related (pairs_of outcome.matches.items)) }
+    // each with its matrix by points of the plane
     ensures matrices { let matrix = HasMatrix left.now.list right.now.list in
         IfOk result (λ outcome. All matrix outcome.matches.items) }
+    // the filter's delivery, as of `meeting_layers`: exactly the pairs whose boxes meet, each once,
+    // in layer order
     ensures candidates { let meet = StandIn BoxesMeet left.now.list right.now.list in
         IfOk result (λ outcome. IsJoinList meet outcome.candidates.pairs) }
     ensures marks { let cut = cut_of options.now in let size = batch_of options.now in
         IfOk result (λ outcome. HasMarks relations.Intersects left.now.root right.now.root cut size
         outcome.candidates) }
+    // no fault but out of memory or of threads
     ensures err { IfErr result IsWant }
 {
     let candidates = meeting_layers(rt, left, right, options)?;
     let (alloc, workers) = (rt.alloc(), options.workers());
-    let left = PreparedLayer::new(alloc, left, candidates.pairs(), Side::Left)?;
-    let right = PreparedLayer::new(alloc, right, candidates.pairs(), Side::Right)?;
-    let condition = RelatedFeatures::new(left, right, relation);
+    let condition = RelatedFeatures::new(alloc, left, right, candidates.pairs(), relation)?;
     let matches = refine_pairs(rt, alloc, &condition, candidates.pairs(), workers)?;
     Ok(AnyOutcome {
         candidates,

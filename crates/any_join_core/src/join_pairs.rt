@@ -10,12 +10,11 @@ ghost use Rattle.any_join_core.specs.Matches.{AreRelated, BoxesMeet};
 
 use crate::outcome::AnyOutcome;
 use crate::pairs::RelatedPairs;
-use crate::prepared::PreparedLayer;
 use any_geometry_core::AnyGeometry;
 use any_relation_core::AnyRelation;
 use filter_core::meeting_layers;
 use layer_core::Layer;
-use pair_core::{Options, Side};
+use pair_core::Options;
 use parallel_core::JoinFault;
 use refine_core::refine_pairs;
 use std::sync::Wait;
@@ -34,6 +33,7 @@ pub fn join_any_pairs<R: AllocGlobal + Threads + Wait + Sync>(
     relation: &AnyRelation,
     options: &Options,
 ) -> Result<AnyOutcome<()>, JoinFault>
+    // over every schedule, as of `join_any`
     ensures pairs { let related = StandIn (AreRelated relation.now) left.now.list right.now.list in
         IfOk result (λ outcome. IsJoinList related (pairs_of outcome.matches.items)) }
     ensures candidates { let meet = StandIn BoxesMeet left.now.list right.now.list in
@@ -45,9 +45,7 @@ pub fn join_any_pairs<R: AllocGlobal + Threads + Wait + Sync>(
 {
     let candidates = meeting_layers(rt, left, right, options)?;
     let (alloc, workers) = (rt.alloc(), options.workers());
-    let left = PreparedLayer::new(alloc, left, candidates.pairs(), Side::Left)?;
-    let right = PreparedLayer::new(alloc, right, candidates.pairs(), Side::Right)?;
-    let condition = RelatedPairs::new(left, right, relation);
+    let condition = RelatedPairs::new(alloc, left, right, candidates.pairs(), relation)?;
     let matches = refine_pairs(rt, alloc, &condition, candidates.pairs(), workers)?;
     Ok(AnyOutcome {
         candidates,

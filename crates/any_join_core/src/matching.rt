@@ -45,8 +45,10 @@ pub fn related(
     prepared: PreparedPair,
 ) -> Result<Option<Matrix>, AllocError>
     requires { AreOf (figure_of first.now) (figure_of second.now) prepared }
+    // a matrix exactly for geometries that stand in the relation
     ensures holds { IfOk result (λ found. IsSome found
         ↔ AreRelated relation.now first.now second.now) }
+    // it is their matrix by points of the plane
     ensures matrix { IfOk result (λ found. IfSome found
         (IsPlaneMatrix (figure_of first.now) (figure_of second.now))) }
 {

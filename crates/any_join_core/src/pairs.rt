@@ -3,8 +3,9 @@
 
 use crate::features::RelatedFeatures;
 use crate::matching::{PreparedPair, are_related};
-use crate::prepared::PreparedLayer;
+use any_geometry_core::AnyGeometry;
 use any_relation_core::AnyRelation;
+use layer_core::Layer;
 use refine_core::Condition;
 use std::alloc::{AllocError, Global};
 
@@ -15,21 +16,27 @@ pub struct RelatedPairs<'a> {
 }
 
 impl<'a> RelatedPairs<'a> {
-    ghost use Rattle.std.specs.Prelude.{◌≡◌};
+    ghost use Rattle.std.specs.Prelude.{◌≡◌, IfOk};
     ghost use Rattle.any_join_core.specs.Conditions.{features_of, left_of, right_of, wanted};
 
-    /// The relation of the features of these layers.
+    /// The relation of the features of these layers, prepared as by [`RelatedFeatures::new`].
+    ///
+    /// # Errors
+    /// If an allocation fails.
     pub fn new(
-        left: PreparedLayer<'a>,
-        right: PreparedLayer<'a>,
+        alloc: Global,
+        left: &'a Layer<AnyGeometry>,
+        right: &'a Layer<AnyGeometry>,
+        candidates: &[(u32, u32)],
         relation: &'a AnyRelation,
-    ) -> RelatedPairs<'a>
-        ensures left { left_of (features_of result) ≡ left.entry }
-        ensures right { right_of (features_of result) ≡ right.entry }
-        ensures relation { wanted (features_of result) ≡ relation.now }
+    ) -> Result<RelatedPairs<'a>, AllocError>
+        // as of `RelatedFeatures::new`
+        ensures left { IfOk result (λ c. left_of (features_of c) ≡ left.now.list) }
+        ensures right { IfOk result (λ c. right_of (features_of c) ≡ right.now.list) }
+        ensures relation { IfOk result (λ c. wanted (features_of c) ≡ relation.now) }
     {
-        let features = RelatedFeatures::new(left, right, relation);
-        RelatedPairs { features }
+        let features = RelatedFeatures::new(alloc, left, right, candidates, relation)?;
+        Ok(RelatedPairs { features })
     }
 }
 

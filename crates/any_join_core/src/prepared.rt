@@ -17,9 +17,10 @@ pub type PreparedLayer<'a> = prepared_core::PreparedLayer<
 >;
 
 impl<'a> Preparation<AnyGeometry, PreparedGeometry<'a>> for ForMatrices {
+    ghost use Rattle.std.specs.Prelude.{◌≡◌};
     ghost use Rattle.any_geometry_core.specs.AnyGeometries.{figure_of};
 
-    ghost form_of = { figure_of };
+    ghost is_form = { λ g form. form ≡ figure_of g };
 
     fn vertex_count(geometry: &AnyGeometry) -> usize {
         geometry.geometry().vertex_count()

@@ -16,7 +16,7 @@ use Rattle.filter_core.proofs.NumberLemmas.{listed_by_number}
 use Rattle.nearest_core.specs.declared.neighbour.Neighbour.{Neighbour}
 use Rattle.nearest_core.specs.Squares.{square_of}
 use Rattle.nearest_core.proofs.SquareLemmas.{square_from}
-use Rattle.any_near_core.specs.StandingNear.{within_envelopes}
+use Rattle.planar_core.specs.AnyPoints.{within_envelopes}
 use Rattle.any_geometry_core.specs.declared.geometry.AnyGeometry.{AnyGeometry}
 use Rattle.any_geometry_core.specs.AnyGeometries.{figure_of, box_of}
 use Rattle.any_nearest_core.specs.declared.neighbour.AnyNeighbour.{AnyNeighbour}

@@ -1,6 +1,6 @@
 -- Features of a layer that are measured, one after another.
 use Rattle.std.proofs.Common.{◌≡◌, ◌↔◌, ℕ, ◌+◌, ◌*◌, ◌<◌, ◌≤◌, ◌⊎◌, inl, inr, cond, List, [], ◌∷◌, ◌++◌, All, Contains, nat_eq, length, get_or, take, refl, sym, subst, ◌∙◌, arith}
-use Rattle.std.specs.Prelude.{Option, Some, None, IsSome, IfSome, count_by, option_map}
+use Rattle.std.specs.Prelude.{Option, Some, None, IsSome, IfSome, Result, Ok, Err, IfOk, count_by, option_map}
 use Rattle.std.specs.Borrow.{Bor}
 use Rattle.std.specs.Slice.{IsItemAt}
 use Rattle.std.proofs.Math.Nat.{mul-le-mul_right}
@@ -16,7 +16,6 @@ use Rattle.distance_core.specs.ShapePoints.{IsPointOf}
 use Rattle.distance_core.specs.declared.fraction.SquaredFraction.{SquaredFraction}
 use Rattle.distance_core.specs.Fractions.{IsSquareOf}
 use Rattle.layer_core.specs.Layers.{Feature, Contents, with_number, ShapeIs}
-use Rattle.prepared_core.specs.Prepared.{FormIs}
 use Rattle.nearest_core.specs.declared.neighbour.Neighbour.{Neighbour}
 use Rattle.any_geometry_core.specs.declared.geometry.AnyGeometry.{AnyGeometry}
 use Rattle.any_geometry_core.specs.AnyGeometries.{figure_of}
@@ -50,22 +49,25 @@ module _ (layer : Contents AnyGeometry) (g : Figure) (units number : ℕ) where
     measured_held (Some s) within square =
         (record { feature = f; held = held; square = square }, (within_by g f.shape f.shape s units square).1 (within.0 refl))
 
-  measured_by : (o : Option (Feature AnyGeometry)) (found : Option SquaredFraction) (h : Figure) → with_number number layer ≡ o
-      → option_map (λ f. figure_of f.shape) o ≡ Some h
-      → IsSome found ↔ AreWithin units (IsPointOf g) (IsPointOf h) → IfSome found (λ s. IsSquareOf s (IsPointOf g) (IsPointOf h))
+  measured_by : (o : Option (Feature AnyGeometry)) (found : Option SquaredFraction) (b : Bor AnyGeometry) → with_number number layer ≡ o → ShapeIs (Some b) o
+      → IsSome found ↔ AreWithin units (IsPointOf g) (HasPoints b.now) → IfSome found (λ s. IsSquareOf s (IsPointOf g) (HasPoints b.now))
       → IsMeasuredAs layer g units number found
-  measured_by None found h held is within square = absurd (let bad : None ≡ Some h = is in cc)
-  measured_by (Some f) found h held is within square =
-      let some : Some h ≡ Some (figure_of f.shape) = sym is in
-      let same : h ≡ figure_of f.shape = cc in
-      measured_held f held found (subst (λ (x : Figure). IsSome found ↔ AreWithin units (IsPointOf g) (IsPointOf x)) same within)
-      (subst (λ (x : Figure). IfSome found (λ s. IsSquareOf s (IsPointOf g) (IsPointOf x))) same square)
+  measured_by None found b held is within square = absurd (let bad : Some b.now ≡ None = is in cc)
+  measured_by (Some f) found b held is within square =
+      let some : Some b.now ≡ Some f.shape = is in
+      let same : b.now ≡ f.shape = cc in
+      measured_held f held found (subst (λ (x : AnyGeometry). IsSome found ↔ AreWithin units (IsPointOf g) (HasPoints x)) same within)
+      (subst (λ (x : AnyGeometry). IfSome found (λ s. IsSquareOf s (IsPointOf g) (HasPoints x))) same square)
 
-  -- what was found of the form of a feature's geometry is its distance
-  pub measured_form : (found : Option SquaredFraction) (h : Figure) → FormIs figure_of layer number h
-      → IsSome found ↔ AreWithin units (IsPointOf g) (IsPointOf h) → IfSome found (λ s. IsSquareOf s (IsPointOf g) (IsPointOf h))
-      → IsMeasuredAs layer g units number found
-  measured_form found h is within square = measured_by (with_number number layer) found h refl is within square
+  -- what was found of a feature's geometry is its distance
+  pub measured_shape : {E : Type 0} (out : Result (Option SquaredFraction) E) (b : Bor AnyGeometry) (h : Figure) → ShapeIs (Some b) (with_number number layer) → h ≡ figure_of b.now
+      → IfOk out (λ found. IsSome found ↔ AreWithin units (IsPointOf g) (IsPointOf h)) → IfOk out (λ found. IfSome found (λ s. IsSquareOf s (IsPointOf g) (IsPointOf h)))
+      → IfOk out (IsMeasuredAs layer g units number)
+  measured_shape (Err e) b h shape is within square = tt
+  measured_shape (Ok found) b h shape is within square =
+      measured_by (with_number number layer) found b refl shape
+      (subst (λ (x : Figure). IsSome found ↔ AreWithin units (IsPointOf g) (IsPointOf x)) is within)
+      (subst (λ (x : Figure). IfSome found (λ s. IsSquareOf s (IsPointOf g) (IsPointOf x))) is square)
 
 module _ (layer : Contents AnyGeometry) (g : Figure) (units : ℕ) where
   pub none_measured : (found : List AnyNeighbour) → found ≡ [] → AreMeasured layer g units [] found

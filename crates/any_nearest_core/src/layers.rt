@@ -34,6 +34,9 @@ pub fn nearest_any_layers<R: AllocGlobal + Threads + Sync>(
     query: &Query,
     workers: u32,
 ) -> Result<Vec<Refined<SquaredFraction>>, AllocError>
+    // for any number of threads: for each left feature, in layer order, exactly the neighbours that
+    // are asked for, each once with its squared distance, a fraction, the nearest first and then in
+    // layer order
     ensures { IfOk result
         (λ matches. AreMatches query.now right.now.list left.now.list.features matches.items) }
 {

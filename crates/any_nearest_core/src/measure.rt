@@ -11,8 +11,9 @@ use crate::measured_layer::MeasuredLayer;
 use crate::neighbour::AnyNeighbour;
 use crate::prepared::PreparedLayer;
 use distance_core::{Distance, SquaredFraction};
-use geometry_distance_core::{MeasuredGeometry, square_within};
+use geometry_distance_core::MeasuredGeometry;
 use nearest_core::Neighbour;
+use planar_core::square_from;
 use std::alloc::{AllocError, Global};
 
 /// The square of the distance of the feature with this number from a geometry, if it is at most so
@@ -27,14 +28,11 @@ pub(crate) fn square_of(
     ensures { let units = units_of distance in
         IfOk result (IsMeasuredAs layer.now from.now units number) }
 {
-    if let Some(geometry) = layer.prepared(number) {
-        return Ok(square_within(from, geometry, distance));
-    }
     let Some(shape) = layer.shape(number) else {
         return Ok(None);
     };
-    let geometry = MeasuredGeometry::new(alloc, shape.geometry())?;
-    Ok(square_within(from, &geometry, distance))
+    let index = layer.prepared(number);
+    square_from(alloc, from, shape.geometry(), index, distance)
 }
 
 /// The same. `known` is the feature that was measured before at this place, which may be another.

@@ -14,7 +14,7 @@ use crate::neighbour::{AnyNeighbour, sort_neighbours};
 use any_geometry_core::AnyGeometry;
 use distance_core::{Distance, Query};
 use geom_core::Shape;
-use geometry_distance_core::MeasuredGeometry;
+use geometry_distance_core::{GeometryIndex, MeasuredGeometry};
 use layer_core::{Geometry as _, Layer};
 use nearest_core::{Neighbour, nearest_boxes};
 use std::alloc::{AllocError, Global};
@@ -40,7 +40,8 @@ pub(crate) fn nearest_any_of<L: MeasuredLayer>(
     // The numbers of a layer's features are distinct, as its length's contract says.
     let _len = features.len();
     let shape = geometry.bounds();
-    let from = MeasuredGeometry::new(alloc, geometry.geometry())?;
+    let index = GeometryIndex::new(alloc, geometry.geometry())?;
+    let from = MeasuredGeometry::new(geometry.geometry(), &index);
     let nearest = nearest_boxes(alloc, features, &shape, query)?;
     let Bound { distance, measured } = bound_of(alloc, layer, &nearest, &from, query)?;
     let candidates = boxes_within(alloc, features, &shape, distance)?;

@@ -1,7 +1,7 @@
 //! The geometries of a layer of which the nearest are sought, indexed for their distances.
 
 use any_geometry_core::AnyGeometry;
-use geometry_distance_core::MeasuredGeometry;
+use geometry_distance_core::GeometryIndex;
 use prepared_core::{Preparation, Prepare};
 use std::alloc::{AllocError, Global};
 
@@ -17,25 +17,22 @@ pub(crate) struct ForNearest;
 pub(crate) type PreparedLayer<'a> = prepared_core::PreparedLayer<
     'a,
     AnyGeometry,
-    MeasuredGeometry<'a>,
+    GeometryIndex,
     ForNearest,
 >;
 
-impl<'a> Preparation<AnyGeometry, MeasuredGeometry<'a>> for ForNearest {
-    ghost use Rattle.any_geometry_core.specs.AnyGeometries.{figure_of};
+impl Preparation<AnyGeometry, GeometryIndex> for ForNearest {
+    ghost use Rattle.planar_core.specs.AnyPoints.{HasIndex};
 
-    ghost form_of = { figure_of };
+    ghost is_form = { HasIndex };
 
     fn vertex_count(geometry: &AnyGeometry) -> usize {
         geometry.geometry().vertex_count()
     }
 }
 
-impl<'a> Prepare<'a, AnyGeometry, MeasuredGeometry<'a>> for ForNearest {
-    fn prepare(
-        alloc: Global,
-        geometry: &'a AnyGeometry,
-    ) -> Result<MeasuredGeometry<'a>, AllocError> {
-        MeasuredGeometry::new(alloc, geometry.geometry())
+impl<'a> Prepare<'a, AnyGeometry, GeometryIndex> for ForNearest {
+    fn prepare(alloc: Global, geometry: &'a AnyGeometry) -> Result<GeometryIndex, AllocError> {
+        GeometryIndex::new(alloc, geometry.geometry())
     }
 }

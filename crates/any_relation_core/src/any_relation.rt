@@ -33,9 +33,14 @@ impl AnyRelation {
     /// # Errors
     /// `AllowsDisjoint` if it holds for two such geometries.
     pub fn new(relation: Relation, rings: Rings) -> Result<AnyRelation, AllowsDisjoint>
+        // Ok exactly for relations that hold, by the matrix of the plane, for no two geometries
+        // with such rings that share no point
         ensures ok { IsOk result ↔ ForbidsDisjoint rings relation }
+        // it is that relation
         ensures same { IfOk result (λ join. relation_of join ≡ relation) }
+        // it is for these rings
         ensures rings { IfOk result (λ join. rings_of join ≡ rings) }
+        // otherwise it holds for some two
         ensures err { OnErr result (HoldsForDisjoint rings relation) }
     {
         let allowed = allows_apart(&relation, rings);
@@ -70,8 +75,12 @@ impl AnyRelation {
     /// tell: the boxes meet, and where the masks put one geometry into the other, its box lies in
     /// the other's, edges included. `false` refuses a pair without its matrix.
     pub fn allows_boxes(&self, first: &Shape, second: &Shape) -> bool
+        // true exactly where the two boxes meet, the first lies in the second if each mask of the
+        // relation lets no point of the first geometry be in the exterior of the second, and the
+        // second in the first likewise
         ensures exact { IsTrue result
             ↔ AllowsBoxes (relation_of self.now) first.now second.now }
+        // true for the envelopes of each two geometries with such rings that stand in the relation
         ensures none_lost { let rings = rings_of self.now in (g h : Figure)
             → IsGeometryOf rings g → IsGeometryOf rings h
             → IsEnvelope g first.now → IsEnvelope h second.now

@@ -19,6 +19,8 @@ ghost use Rattle.any_relation_core.specs.PlaneSets.{HoldsOfSets};
 /// Law of the filter: the boxes of two geometries that stand in a relation meet, if no two disjoint
 /// geometries stand in it. So a search by boxes finds each pair of a join.
 pub fn filter_law()
+    // the boxes of two geometries that stand in a relation meet, if no two geometries without a
+    // common point stand in it
     ensures { (rings : Rings) (relation : Relation) (g h : Figure) (s t : Shape)
         → ForbidsDisjoint rings relation → IsGeometryOf rings g → IsGeometryOf rings h
         → All (HoldsVertex s) (vertices_of g) → All (HoldsVertex t) (vertices_of h)
@@ -29,6 +31,8 @@ pub fn filter_law()
 /// if no two disjoint geometries stand in it. So a pair whose envelopes lie otherwise needs no
 /// matrix.
 pub fn box_law()
+    // the envelopes of two geometries that stand in a relation lie so, if no two geometries without
+    // a common point stand in it
     ensures { (rings : Rings) (relation : Relation) (g h : Figure) (s t : Shape)
         → ForbidsDisjoint rings relation → IsGeometryOf rings g → IsGeometryOf rings h
         → IsEnvelope g s → IsEnvelope h t
@@ -37,9 +41,12 @@ pub fn box_law()
 
 /// Law of boxes by names: what the masks of the named relations imply of two boxes.
 pub fn named_box_law()
+    // what the masks of equals imply of two boxes is that they are the same set
     ensures equals { (s t : Shape) → AllowsBoxes relations.Equals s t ↔ AreSameSet s t }
+    // that the first lies in the second
     ensures within { (s t : Shape) → AllowsBoxes relations.Within s t ↔ IsIn s t }
     ensures covered_by { (s t : Shape) → AllowsBoxes relations.CoveredBy s t ↔ IsIn s t }
+    // of contains_properly, that the second lies in the first
     ensures contains { (s t : Shape) → AllowsBoxes relations.Contains s t ↔ IsIn t s }
     ensures covers { (s t : Shape) → AllowsBoxes relations.Covers s t ↔ IsIn t s }
     ensures properly { (s t : Shape) → AllowsBoxes relations.ContainsProperly s t ↔ IsIn t s }
@@ -48,6 +55,10 @@ pub fn named_box_law()
 /// Law of sets: two geometries stand in a relation exactly where their points lie as its name says.
 /// Masks, crosses and overlaps are defined by the matrix alone.
 pub fn sets_law()
+    // two geometries stand by their matrix in disjoint, intersects, touches, within, contains,
+    // equals, covers, covered_by or contains_properly exactly where their points lie so. Touches
+    // also means that no point is in both interiors; within, contains, equals and contains_properly
+    // that some point is
     ensures { (relation : Relation) (g h : Figure) (m : Matrix)
         → IsGeometry g → IsGeometry h → IsPlaneMatrix g h m
         → HoldsOf relation g h ↔ HoldsOfSets relation g h }

@@ -1,5 +1,6 @@
 pub mod AcrossLemmas
 pub mod AroundLemmas
+pub mod AskedLemmas
 pub mod ClearLemmas
 pub mod CrossedLemmas
 pub mod KnownLemmas

@@ -12,8 +12,8 @@ use Rattle.plane_core.specs.declared.outline.Outline.{Outline}
 use Rattle.edge_index_core.specs.Around.{IsKept, AreAround}
 use Rattle.edge_index_core.specs.Beyond.{is_beyond}
 use Rattle.noding_core.specs.Nodes.{IsAmong, NodedEdge, AreAllNoded}
-use Rattle.noding_core.specs.Growth.{HasGrownBy, edge_marks, point_marks, outside, transposed}
-use Rattle.noding_core.specs.ReadOffs.{points_by, outline_edges, outline_points, IsOwn, IsEdgeMarked, AreMarked, AreSomeMarked, AreAllMarked, IsReadOffBy}
+use Rattle.noding_core.specs.Growth.{Mark, HasGrownBy, edge_marks, point_marks, outside, transposed}
+use Rattle.noding_core.specs.ReadOffs.{points_by, outline_edges, outline_points, IsOwn, IsEdgeMarked, AreMarked, AreSomeMarked, AreAllMarked}
 use Rattle.noding_core.proofs.AmongLemmas.{among_left, among_right, among_either}
 use Rattle.noding_core.proofs.GrowthLemmas.{grown_as, grown-trans}
 use Rattle.noding_core.proofs.NearLemmas.{contained}
@@ -21,6 +21,10 @@ use Rattle.noding_core.proofs.NodeLemmas.{all_among}
 use Rattle.noding_core.proofs.ReadOffLemmas.{marked_none}
 use Rattle.noding_core.proofs.TestLemmas.{by_test, clash}
 use Rattle.noding_core.proofs.TurnLemmas.{turned_back, marked_from, both_points}
+use Rattle.arrangement_core.specs.declared.wanted.Wanted.{Wanted}
+use Rattle.arrangement_core.specs.Answers.{IsReadFor}
+use Rattle.arrangement_core.specs.Asked.{start_of}
+use Rattle.arrangement_core.proofs.AskedLemmas.{CanGrow, grow, agree_grown, start_agrees}
 
 -- no edge, one edge, and one that isn't selected
 pub some_none : (a b : Outline) (es : List Edge) (vs : List Vertex) (which : Edge → Bool) (m : Matrix) → AreSomeMarked a b es vs which [] m m
@@ -186,14 +190,27 @@ rounds a b p q vs m0 m1 m2 m3 m4 near1 near2 far2 far1 = record {
     only e one = elim (among_either e far1.listed (second ++ near1.listed) one) [ inl l ↦ own_first e (far1.own e l) | inr r ↦ in_rest e r ]
 
 -- and the single points of both
-pub with_points : (a b : Outline) (vs : List Vertex) (m first turned second new : Matrix) → vs ≡ outline_points a b → AreAllMarked a b vs outside m
+pub with_points : (w : Wanted) (a b : Outline) (vs : List Vertex) (m first turned second new : Matrix) → vs ≡ outline_points a b → AreAllMarked a b vs (start_of w) m
     → HasGrownBy (point_marks a b (points_by a.kind a.ends.items)) m first → turned ≡ transposed first
-    → HasGrownBy (point_marks b a (points_by b.kind b.ends.items)) turned second → new ≡ transposed second → IsReadOffBy a b new
-with_points a b vs m first turned second new v h f et s en = record {
-  noded = h.noded;
-  are_noded = subst (λ (x : List Vertex). AreAllNoded (outline_edges a b) x h.noded) v h.are_noded;
-  grown = subst (λ (x : Matrix). HasGrownBy (flat_map (edge_marks a b) h.noded ++ point_marks a b (outline_points a b)) outside x) (sym en)
-      (grown-trans (flat_map (edge_marks a b) h.noded) (point_marks a b (outline_points a b)) outside m (transposed second) h.grown
-      (both_points a b (points_by a.kind a.ends.items) (points_by b.kind b.ends.items) m first second f
-      (subst (λ (x : Matrix). HasGrownBy (point_marks b a (points_by b.kind b.ends.items)) x second) et s)));
+    → HasGrownBy (point_marks b a (points_by b.kind b.ends.items)) turned second → new ≡ transposed second → IsReadFor w a b new
+with_points w a b vs m first turned second new v h f et s en = record {
+  matrix = whole.new;
+  read = record {
+    noded = h.noded;
+    are_noded = subst (λ (x : List Vertex). AreAllNoded (outline_edges a b) x h.noded) v h.are_noded;
+    grown = whole.grown;
+  };
+  agree = agree_grown false w ks (start_of w) new outside whole.new grown whole.grown (start_agrees w);
 }
+  where
+    ks : List Mark
+    ks = flat_map (edge_marks a b) h.noded ++ point_marks a b (outline_points a b)
+
+    grown : HasGrownBy ks (start_of w) new
+    grown = subst (λ (x : Matrix). HasGrownBy ks (start_of w) x) (sym en)
+        (grown-trans (flat_map (edge_marks a b) h.noded) (point_marks a b (outline_points a b)) (start_of w) m (transposed second) h.grown
+        (both_points a b (points_by a.kind a.ends.items) (points_by b.kind b.ends.items) m first second f
+        (subst (λ (x : Matrix). HasGrownBy (point_marks b a (points_by b.kind b.ends.items)) x second) et s)))
+
+    whole : CanGrow ks outside
+    whole = grow ks outside

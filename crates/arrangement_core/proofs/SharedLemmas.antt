@@ -22,7 +22,7 @@ use Rattle.plane_core.specs.PlaneMatrices.{entry}
 use Rattle.edge_index_core.specs.Beyond.{is_beyond}
 use Rattle.noding_core.specs.Nodes.{IsAmong, IsPointOf, AreNodesOf, middle}
 use Rattle.noding_core.specs.Marks.{rank}
-use Rattle.noding_core.specs.Growth.{Mark, mark_at, mark_above, piece_marks, gap_marks, gaps_marks, edge_marks, outside, transposed}
+use Rattle.noding_core.specs.Growth.{Mark, mark_at, mark_above, piece_marks, gap_marks, gaps_marks, edge_marks, transposed}
 use Rattle.noding_core.specs.ReadOffs.{outline_edges, IsOwn, IsEdgeMarked, AreMarked, AreSomeMarked}
 use Rattle.noding_core.proofs.AmongLemmas.{among_flat}
 use Rattle.noding_core.proofs.FlipLemmas.{flip, is_on-flip}
@@ -35,6 +35,7 @@ use Rattle.noding_core.proofs.TurnLemmas.{turned_back}
 use Rattle.shown_core.specs.Beyond.{IsBounded, is_around}
 use Rattle.shown_core.proofs.BeyondLemmas.{holds_all}
 use Rattle.arrangement_core.specs.Seen.{AreNear}
+use Rattle.arrangement_core.proofs.AskedLemmas.{transposed_twice}
 use Rattle.arrangement_core.specs.Shared.{is_same_vertex, is_same, is_shared, HasEdge, HasShared}
 
 -- ---- equal edges
@@ -178,15 +179,16 @@ same_around b s e f bounded one same = by_test (is_beyond s f)
     own : IsAmong e (edges_of bounded.figure)
     own = subst (IsAmong e) bounded.outline.edges one
 
-pub shared_first : (a b : Outline) (vs : List Vertex) (s : Shape) (m : Matrix) → IsBounded b s → AreSomeMarked a b (outline_edges a b) vs (is_around s) a.edges.items outside m → HasShared b a vs (transposed m)
-shared_first a b vs s m bounded h e f own other same = record {
+pub shared_first : (a b : Outline) (vs : List Vertex) (s : Shape) (old m : Matrix) → IsBounded b s → AreSomeMarked a b (outline_edges a b) vs (is_around s) a.edges.items old m → HasShared b a vs (transposed m)
+shared_first a b vs s old m bounded h e f own other same = record {
   nodes = n.nodes;
   are_nodes = n.are;
   reached = λ k one. turned.grown.reached k (among_flat (edge_marks b a) (record { edge = f; nodes = n.nodes }) k turned.noded n.one one);
 }
   where
-    turned : AreMarked b a (outline_edges b a) vs h.listed outside (transposed m)
-    turned = turned_back b a vs h.listed outside m h.marked
+    turned : AreMarked b a (outline_edges b a) vs h.listed (transposed old) (transposed m)
+    turned = turned_back b a vs h.listed (transposed old) m
+        (subst (λ (x : Matrix). AreMarked a b (outline_edges a b) vs h.listed x m) (sym (transposed_twice old)) h.marked)
 
     n : HasNodes (outline_edges b a) vs turned.noded f
     n = noded_of (outline_edges b a) vs h.listed turned.noded f turned.are_noded (h.all f other (same_around b s e f bounded own same))

@@ -1,5 +1,7 @@
 pub mod Answers
 pub mod Around
+pub mod Aside
+pub mod Asked
 pub mod Crossed
 pub mod Fits
 pub mod Known

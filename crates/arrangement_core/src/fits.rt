@@ -69,8 +69,10 @@ pub fn fitting_prepared(
     question: &Question,
 ) -> Result<Option<Matrix>, AllocError>
     requires { IsUpperBound a.now b.now question.now.greatest }
+    // a matrix exactly where one of the masks fits that of the two geometries
     ensures fits { IfOk result (λ found. IsSome found
         ↔ FitMatrix question.now.masks.now a.now b.now) }
+    // it is that one
     ensures matrix { IfOk result (λ found. IfSome found (IsPlaneMatrix a.now b.now)) }
 {
     match computed(alloc, a, b, &Wanted::Fitting(*question)) {
@@ -96,6 +98,7 @@ pub fn fitting_within(
     requires first { All (HoldsVertex a_box) (vertices_of a.now) }
     requires second { All (HoldsVertex b_box) (vertices_of b.now) }
     requires bound { IsUpperBound a.now b.now question.now.greatest }
+    // as of `fitting_prepared`
     ensures fits { IfOk result (λ found. IsSome found
         ↔ FitMatrix question.now.masks.now a.now b.now) }
     ensures matrix { IfOk result (λ found. IfSome found (IsPlaneMatrix a.now b.now)) }

@@ -1,14 +1,16 @@
 //! Edges that can add nothing more to a matrix, by what is known of their places in the other
 //! geometry.
 
-ghost use Rattle.std.specs.Prelude.{◌≡◌, ◌≢◌, [], All, List, IsTrue, IfSome};
-ghost use Rattle.std.specs.List.{list_any};
+ghost use Rattle.std.specs.Prelude.{◌≡◌, ◌≢◌, true, All, List, IsTrue, IfSome};
+ghost use Rattle.std.specs.List.{list_all, list_any};
 ghost use Rattle.plane_core.specs.declared.edge.Edge.{Edge};
 ghost use Rattle.plane_core.specs.declared.outline.Outline.{Outline};
 ghost use Rattle.plane_core.specs.declared.vertex.Vertex.{Vertex};
+ghost use Rattle.plane_core.specs.Figures.{HasLength};
 ghost use Rattle.plane_core.specs.Points.{at, is_on};
 ghost use Rattle.plane_core.specs.Outlines.{outline_part};
 ghost use Rattle.shown_core.specs.Beyond.{IsBounded};
+ghost use Rattle.arrangement_core.specs.Aside.{are_aside};
 ghost use Rattle.arrangement_core.specs.Known.{part_along, parts_met, parts_passed, is_touched};
 ghost use Rattle.arrangement_core.specs.Known.{IsAllShown};
 ghost use Rattle.noding_core.specs.Near.{IsFound};
@@ -17,6 +19,7 @@ ghost use Rattle.arrangement_core.specs.Seen.{IsSeen, IsSeenAlong};
 ghost use Rattle.noding_core.specs.ReadOffs.{outline_edges, IsOneOf, IsEdgeMarked};
 ghost use Rattle.shown_core.specs.Shown.{IsKnownApart};
 
+use crate::aside::is_aside_of_all;
 use crate::outside::is_outside;
 use crate::pair::Pair;
 use edge_index_core::IndexedOutline;
@@ -58,12 +61,12 @@ fn part_from(pair: &Pair, v: &Vertex, seen: Option<Seen>) -> Part
     }
 }
 
-/// Whether a geometry has edges, and none of them is near.
-fn is_clear(kind: Kind, near: &[Edge]) -> bool
+/// Whether a geometry has edges, and an edge shares no point with those of them near it.
+fn is_clear(kind: Kind, e: &Edge, near: &[Edge]) -> bool
     ensures edges { IsTrue result → kind ≢ Kind.Points }
-    ensures none { IsTrue result → near.now ≡ [] }
+    ensures none { IsTrue result → list_all (λ f. are_aside e.now f) near.now ≡ true }
 {
-    kind != Kind::Points && near.is_empty()
+    kind != Kind::Points && is_aside_of_all(e, near)
 }
 
 /// Whether a geometry consists of points, and none of them is on an edge, so that the edge lies in
@@ -75,15 +78,16 @@ fn is_off_points(other: &IndexedOutline, e: &Edge) -> bool
 }
 
 /// The last end of an edge, and the part of the second geometry in which the edge lies: one that
-/// has none of its edges near it, or none of its points on it, lies in one part.
+/// shares no point with its edges, or has none of its points on it, lies in one part.
 pub(crate) fn seen_along(pair: &Pair, e: &Edge, near: &[Edge], seen: Option<Seen>) -> Option<Seen>
     requires bounded { IsBounded pair.now.second.now pair.now.second_box }
+    requires long { HasLength e.now }
     requires found { All (IsFound e.now near.now) pair.now.second.now.edges.items }
     requires seen { IfSome seen (IsSeen pair.now.second.now) }
     ensures { IfSome result (IsSeenAlong pair.now.second.now e.now) }
 {
     let outline = pair.second.outline();
-    if is_clear(outline.kind, near) {
+    if is_clear(outline.kind, e, near) {
         let part = part_from(pair, &e.a, seen);
         Some(Seen { vertex: e.b, part })
     } else if is_off_points(pair.second, e) {
@@ -97,7 +101,7 @@ pub(crate) fn seen_along(pair: &Pair, e: &Edge, near: &[Edge], seen: Option<Seen
 }
 
 /// The part in which the points of an edge lie at which no polyline ends.
-fn part_along(kind: Kind) -> Part
+pub(crate) fn part_along(kind: Kind) -> Part
     ensures { result ≡ part_along kind }
 {
     match kind {

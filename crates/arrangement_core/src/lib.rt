@@ -2,7 +2,10 @@
 //! enough, and whether masks fit it.
 #![tactic(auto)]
 
+mod aside;
+mod asked;
 mod crossed;
+mod early;
 mod fits;
 mod known;
 mod marks;

@@ -12,6 +12,7 @@ ghost use Rattle.arrangement_core.specs.Shared.{HasShared};
 ghost use Rattle.noding_core.specs.ReadOffs.{outline_edges, IsOwn};
 ghost use Rattle.noding_core.specs.ReadOffs.{IsOneOf, IsEdgeMarked, AreMarked};
 
+use crate::early::stop_where_met;
 use crate::known::{adds_none_near, part_seen, seen_along};
 use crate::near::push_second;
 use crate::pair::Pair;
@@ -64,14 +65,18 @@ fn mark_near_edge(
 }
 
 /// The same matrix, if the edges of the second geometry near an edge of the first tell that it can
-/// add nothing, or the matrix has one with the same ends, and else one that shows the edge.
+/// add nothing, or the matrix has one with the same ends, and else one that shows the edge, or an
+/// early end.
 pub(crate) fn mark_edge(
     work: &mut Work,
     matrix: Matrix,
     pair: &Pair,
     points: &Points,
     e: &Edge,
-) -> Result<Matrix, AllocError>
+    wanted: &Wanted,
+) -> Result<Matrix, Stop>
+    requires long { All HasLength (outline_edges pair.now.first.now pair.now.second.now) }
+    requires first { IsBounded pair.now.first.now pair.now.first_box }
     requires bounded { IsBounded pair.now.second.now pair.now.second_box }
     requires one { let a = pair.now.first.now in let b = pair.now.second.now in
         IsOneOf a b (outline_edges a b) e.now }
@@ -79,9 +84,13 @@ pub(crate) fn mark_edge(
     requires seen { IfSome work.old.seen (IsSeen pair.now.second.now) }
     requires shared { let a = pair.now.first.now in let b = pair.now.second.now in
         IsTrue pair.now.has_second → HasShared a b points.now matrix }
+    requires begun { let a = pair.now.first.now in let b = pair.now.second.now in
+        IsBegun wanted.now pair.now.has_second a b points.now matrix }
     ensures marked { let a = pair.now.first.now in let b = pair.now.second.now in
         IfOk result (λ m. IsEdgeMarked a b (outline_edges a b) points.now e.now matrix m) }
     ensures seen { IfSome work.new.seen (IsSeen pair.now.second.now) }
+    ensures stop { let a = pair.now.first.now in let b = pair.now.second.now in
+        IfErr result (IsStopOf wanted.now pair.now.has_second a b) }
 {
     work.near.clear();
     push_second(&mut work.near, e, pair)?;
@@ -92,10 +101,11 @@ pub(crate) fn mark_edge(
     work.seen = seen_along(pair, e, &work.near, work.seen);
     let course = course_of(e, part_seen(work.seen), &work.near);
     if adds_none_near(&matrix, pair, &course, &work.near) {
-        Ok(matrix)
-    } else {
-        mark_near_edge(work, matrix, pair, points, &course)
+        return Ok(matrix);
     }
+    stop_where_met(&matrix, pair, points, &course, &work.near, wanted)?;
+    let marked = mark_near_edge(work, matrix, pair, points, &course)?;
+    Ok(marked)
 }
 
 /// The same matrix, if it has all that an edge of the first geometry can add which lies beyond the
@@ -156,7 +166,7 @@ pub(crate) fn mark_some(
     requires shared { let a = pair.now.first.now in let b = pair.now.second.now in
         IsTrue pair.now.has_second → HasShared a b points.now matrix }
     requires begun { let a = pair.now.first.now in let b = pair.now.second.now in
-        IsBegun pair.now.has_second a b points.now matrix }
+        IsBegun wanted.now pair.now.has_second a b points.now matrix }
     ensures marked { let a = pair.now.first.now in let b = pair.now.second.now in
         let marked = AreMarked a b (outline_edges a b) points.now edges.now in
         IfOk result (λ m. marked matrix m) }
@@ -166,7 +176,7 @@ pub(crate) fn mark_some(
 {
     let mut grown = matrix;
     for e in edges {
-        let next = mark_edge(work, grown, pair, points, e)?;
+        let next = mark_edge(work, grown, pair, points, e, wanted)?;
         go_on(wanted, pair.has_second, &grown, &next)?;
         grown = next;
     }

@@ -5,7 +5,7 @@ ghost use Rattle.plane_core.specs.Figures.{IsGeometry};
 ghost use Rattle.plane_core.specs.Outlines.{IsOutlineOf};
 ghost use Rattle.plane_core.specs.PlaneMatrices.{IsPlaneMatrix};
 ghost use Rattle.plane_core.specs.Vertices.{HoldsVertex, vertices_of};
-ghost use Rattle.arrangement_core.specs.Answers.{IsEnd};
+ghost use Rattle.arrangement_core.specs.Answers.{IsEnd, IsMatrixFor};
 
 use crate::pair::Pair;
 use crate::rounds::read_off;
@@ -17,11 +17,18 @@ use relation_core::Matrix;
 use std::alloc::{AllocError, Global};
 use std::marker::Model;
 
-/// The greatest number of edges of a geometry apart from the other one that has no index.
+/// The greatest number of edges of a geometry that has no index for one other, where few of them
+/// are looked for: the other is apart from it or small.
 const MANY: usize = 1024;
 
+/// The same where more are looked for. To index so few takes longer than to look at each of them.
+const FEW: usize = 48;
+
 /// The greatest number of ends of its polylines.
-const FEW: usize = 16;
+const FEW_ENDS: usize = 16;
+
+/// The greatest number of vertices of a small geometry.
+const SMALL: usize = 4;
 
 /// A geometry with its outline, an index of its edges and its box, which are computed once for its
 /// matrices with any number of others. In contracts its value is the geometry.
@@ -61,18 +68,17 @@ impl<'a> PreparedGeometry<'a> {
         })
     }
 
-    /// Prepares a geometry for one other, with no index where the edges are few and the box of the
-    /// other doesn't meet its own: then few are looked for.
+    /// Prepares a geometry for one other, with an index only if it has more than so many edges.
     fn for_one(
         alloc: Global,
         geometry: &'a Geometry,
         bounds: Shape,
-        is_apart: bool,
+        most_plain: usize,
     ) -> Result<PreparedGeometry<'a>, AllocError>
         requires { All (HoldsVertex bounds) (vertices_of geometry.now) }
         ensures { IfOk result (λ p. p ≡ geometry.now) }
     {
-        let outline = indexed(alloc, geometry, is_apart)?;
+        let outline = indexed(alloc, geometry, most_plain)?;
         Ok(PreparedGeometry {
             geometry,
             outline,
@@ -81,29 +87,42 @@ impl<'a> PreparedGeometry<'a> {
     }
 }
 
-/// The outline of a geometry with an index of its edges, or with none where they are few and the
-/// other geometry's box doesn't meet its own.
-fn indexed(alloc: Global, geometry: &Geometry, is_apart: bool) -> Result<IndexedOutline, AllocError>
+/// The greatest number of edges of a geometry that has no index for one other, whose box is apart
+/// from its own or not.
+fn most_plain(other: &Geometry, is_apart: bool) -> usize {
+    if is_apart || other.vertex_count() <= SMALL {
+        MANY
+    } else {
+        FEW
+    }
+}
+
+/// The outline of a geometry, with an index of its edges if it has more than so many.
+fn indexed(
+    alloc: Global,
+    geometry: &Geometry,
+    most_plain: usize,
+) -> Result<IndexedOutline, AllocError>
     ensures outline { IfOk result (IsOutlineOf geometry.now) }
     ensures geometry { OnOk result (IsGeometry geometry.now) }
 {
     let outline = geometry.outline(alloc)?;
-    if is_apart && outline.edges.len() <= MANY && outline.ends.len() <= FEW {
+    if outline.edges.len() <= most_plain && outline.ends.len() <= FEW_ENDS {
         Ok(IndexedOutline::plain(outline))
     } else {
         IndexedOutline::new(alloc, outline)
     }
 }
 
-/// The matrix of two prepared geometries, or an early end. It takes time by the edges of each that
-/// lie around the other's box, and by few beyond it.
+/// The matrix of two prepared geometries, as far as it is wanted, or an early end. It takes time by
+/// the edges of each that lie around the other's box, and by few beyond it.
 pub(crate) fn computed(
     alloc: Global,
     a: &PreparedGeometry,
     b: &PreparedGeometry,
     wanted: &Wanted,
 ) -> Result<Matrix, Stop>
-    ensures matrix { IfOk result (λ m. IsPlaneMatrix a.now b.now m) }
+    ensures matrix { IfOk result (IsMatrixFor wanted.now a.now b.now) }
     ensures end { IfErr result (IsEnd wanted.now a.now b.now) }
 {
     let first_around = a.outline.edges_around(alloc, &b.bounds)?;
@@ -154,8 +173,8 @@ pub(crate) fn prepared_for<'a>(
     ensures second { IfOk result (λ both. both.1 ≡ b.now) }
 {
     let is_apart = !a_box.meets(&b_box);
-    let first = PreparedGeometry::for_one(alloc, a, a_box, is_apart)?;
-    let second = PreparedGeometry::for_one(alloc, b, b_box, is_apart)?;
+    let first = PreparedGeometry::for_one(alloc, a, a_box, most_plain(b, is_apart))?;
+    let second = PreparedGeometry::for_one(alloc, b, b_box, most_plain(a, is_apart))?;
     Ok((first, second))
 }
 

@@ -5,13 +5,13 @@ ghost use Rattle.std.specs.Prelude.{◌≡◌, ◌≤◌, false, length, All, If
 ghost use Rattle.plane_core.specs.Figures.{HasLength};
 ghost use Rattle.edge_index_core.specs.Around.{AreAround};
 ghost use Rattle.edge_index_core.specs.Beyond.{is_beyond};
-ghost use Rattle.arrangement_core.specs.Answers.{IsBegun, IsStop, IsStopOf};
+ghost use Rattle.arrangement_core.specs.Answers.{IsBegun, IsReadFor, IsStop, IsStopOf};
 ghost use Rattle.arrangement_core.specs.Around.{HasNear};
+ghost use Rattle.arrangement_core.specs.Asked.{start_of};
 ghost use Rattle.arrangement_core.specs.Shared.{HasShared};
 ghost use Rattle.shown_core.specs.Beyond.{IsBounded, is_around};
-ghost use Rattle.noding_core.specs.Growth.{outside};
 ghost use Rattle.noding_core.specs.ReadOffs.{outline_edges, outline_points, IsOwn, AreMarked};
-ghost use Rattle.noding_core.specs.ReadOffs.{AreSomeMarked, AreAllMarked, IsReadOffBy};
+ghost use Rattle.noding_core.specs.ReadOffs.{AreSomeMarked, AreAllMarked};
 
 use crate::marks::mark_points;
 use crate::matrices::{mark_outer_edge, mark_some, no_work};
@@ -20,7 +20,7 @@ use crate::points::Points;
 use crate::wanted::{Stop, Wanted};
 use crate::work::Work;
 use edge_index_core::is_beyond;
-use noding_core::{outside, transposed};
+use noding_core::transposed;
 use plane_core::{Edge, Kind};
 use relation_core::Matrix;
 use shown_core::is_outer_shown;
@@ -60,7 +60,7 @@ fn mark_edges(
     requires shared { let a = pair.now.first.now in let b = pair.now.second.now in
         IsTrue pair.now.has_second → HasShared a b points.now matrix }
     requires begun { let a = pair.now.first.now in let b = pair.now.second.now in
-        IsBegun pair.now.has_second a b points.now matrix }
+        IsBegun wanted.now pair.now.has_second a b points.now matrix }
     ensures marked { let a = pair.now.first.now in let b = pair.now.second.now in
         let marked = AreMarked a b (outline_edges a b) points.now edges.now in
         IfOk result (λ m. marked matrix m) }
@@ -94,7 +94,7 @@ fn mark_around(
     requires shared { let a = pair.now.first.now in let b = pair.now.second.now in
         IsTrue pair.now.has_second → HasShared a b points.now matrix }
     requires begun { let a = pair.now.first.now in let b = pair.now.second.now in
-        IsBegun pair.now.has_second a b points.now matrix }
+        IsBegun wanted.now pair.now.has_second a b points.now matrix }
     ensures marked { let a = pair.now.first.now in let b = pair.now.second.now in
         let es = outline_edges a b in let box = pair.now.second_box in
         let marked = AreSomeMarked a b es points.now (is_around box) a.edges.items in
@@ -179,7 +179,7 @@ fn mark_outer(
     Ok(grown)
 }
 
-/// The matrix with all edges of two geometries, or an early end.
+/// The matrix with all edges of two geometries, as far as it is wanted, or an early end.
 fn mark_both(work: &mut Work, pair: &Pair, points: &Points, wanted: &Wanted) -> Result<Matrix, Stop>
     requires long { All HasLength (outline_edges pair.now.first.now pair.now.second.now) }
     requires first { IsBounded pair.now.first.now pair.now.first_box }
@@ -191,12 +191,12 @@ fn mark_both(work: &mut Work, pair: &Pair, points: &Points, wanted: &Wanted) -> 
     requires none { pair.now.has_second ≡ false }
     requires points { points.now ≡ outline_points pair.now.first.now pair.now.second.now }
     ensures marked { let a = pair.now.first.now in let b = pair.now.second.now in
-        IfOk result (λ m. AreAllMarked a b points.now outside m) }
+        IfOk result (λ m. AreAllMarked a b points.now (start_of wanted.now) m) }
     ensures stop { let a = pair.now.first.now in let b = pair.now.second.now in
         IfErr result (IsStop wanted.now a b) }
 {
     let turned = pair.turned();
-    let start = outside();
+    let start = wanted.start();
     let around_first = mark_around(work, start, pair, points, wanted)?;
     let across = transposed(&around_first);
     let around_both = mark_around(work, across, &turned, points, wanted)?;
@@ -206,7 +206,7 @@ fn mark_both(work: &mut Work, pair: &Pair, points: &Points, wanted: &Wanted) -> 
     Ok(all)
 }
 
-/// The matrix with all edges and points of two geometries, or an early end.
+/// The matrix with all edges and points of two geometries, as far as it is wanted, or an early end.
 pub(crate) fn read_off(alloc: Global, pair: &Pair, wanted: &Wanted) -> Result<Matrix, Stop>
     requires long { All HasLength (outline_edges pair.now.first.now pair.now.second.now) }
     requires first { IsBounded pair.now.first.now pair.now.first_box }
@@ -216,7 +216,7 @@ pub(crate) fn read_off(alloc: Global, pair: &Pair, wanted: &Wanted) -> Result<Ma
     requires second_around { let edges = pair.now.second.now.edges.items in
         AreAround pair.now.first_box edges pair.now.second_around.now }
     requires none { pair.now.has_second ≡ false }
-    ensures read { IfOk result (λ m. IsReadOffBy pair.now.first.now pair.now.second.now m) }
+    ensures read { IfOk result (IsReadFor wanted.now pair.now.first.now pair.now.second.now) }
     ensures stop { let a = pair.now.first.now in let b = pair.now.second.now in
         IfErr result (IsStop wanted.now a b) }
 {

@@ -4,8 +4,9 @@ ghost use Rattle.std.specs.Prelude.{◌≡◌, IfErr};
 ghost use Rattle.plane_core.specs.declared.outline.Outline.{Outline};
 ghost use Rattle.arrangement_core.specs.Answers.{IsLowerBound, IsStop, in_order};
 
+use crate::asked::loosened;
 use decision_core::{Decision, decided};
-use noding_core::transposed;
+use noding_core::{outside, transposed};
 use relation_core::{Mask, Matrix};
 use std::alloc::AllocError;
 
@@ -20,6 +21,7 @@ pub struct Question<'a> {
 impl<'a> Question<'a> {
     ghost use Rattle.std.specs.Prelude.{◌≡◌};
     ghost use Rattle.decision_core.specs.Decisions.{FitsEach, FitsNone};
+    ghost use Rattle.arrangement_core.specs.Asked.{loosened};
 
     /// What a lower bound of the matrix tells of the masks.
     fn decision(&self, least: &Matrix) -> Decision
@@ -29,6 +31,18 @@ impl<'a> Question<'a> {
             → FitsNone self.now.masks.now least.now self.now.greatest }
     {
         decided(self.masks, least, &self.greatest)
+    }
+
+    /// The same of a bound whose entries that no mask asks for may have any extent.
+    fn loose_decision(&self, least: &Matrix) -> Decision
+        ensures holds { result ≡ Decision.Holds
+            → let masks = self.now.masks.now in
+            FitsEach masks least.now (loosened masks self.now.greatest) }
+        ensures fails { result ≡ Decision.Fails
+            → let masks = self.now.masks.now in
+            FitsNone masks least.now (loosened masks self.now.greatest) }
+    {
+        decided(self.masks, least, &loosened(self.masks, &self.greatest))
     }
 }
 
@@ -41,6 +55,23 @@ pub(crate) enum Wanted<'a> {
     Fitting(Question<'a>),
     /// Whether one of the masks fits it.
     Answer(Question<'a>),
+}
+
+impl<'a> Wanted<'a> {
+    ghost use Rattle.std.specs.Prelude.{◌≡◌};
+    ghost use Rattle.arrangement_core.specs.Asked.{start_of};
+
+    /// The matrix of no edges. Where only the answer is wanted, the entries that no mask asks for
+    /// have the greatest extent, so that no time is spent on what could add to them.
+    pub(crate) fn start(&self) -> Matrix
+        ensures { result ≡ start_of self.now }
+    {
+        match self {
+            Wanted::Whole => outside(),
+            Wanted::Fitting(_) => outside(),
+            Wanted::Answer(question) => loosened(question.masks, &outside()),
+        }
+    }
 }
 
 /// Why a matrix isn't computed to its end.
@@ -82,7 +113,7 @@ pub(crate) fn go_on(
     old: &Matrix,
     new: &Matrix,
 ) -> Result<(), Stop>
-    ensures { (a b : Outline) → IsLowerBound a b (in_order is_turned new.now)
+    ensures { (a b : Outline) → IsLowerBound wanted.now a b (in_order is_turned new.now)
         → IfErr result (IsStop wanted.now a b) }
 {
     if old == new {
@@ -94,7 +125,7 @@ pub(crate) fn go_on(
             Decision::Fails => Err(Stop::Settled(false)),
             _ => Ok(()),
         },
-        Wanted::Answer(question) => match question.decision(&in_order(is_turned, new)) {
+        Wanted::Answer(question) => match question.loose_decision(&in_order(is_turned, new)) {
             Decision::Holds => Err(Stop::Settled(true)),
             Decision::Fails => Err(Stop::Settled(false)),
             Decision::Open => Ok(()),

@@ -6,7 +6,9 @@ use Rattle.std.specs.Borrow.{Bor}
 use Rattle.wkt_core.specs.declared.fault.WktFault.{WktFault}
 use Rattle.number_core.specs.declared.scale.Scale.{Scale}
 use Rattle.any_geometry_core.specs.AnyGeometries.{box_of}
-use Rattle.format_core.specs.Formats.{Reading, ReadsAny, ReadsBox}
+use Rattle.format_core.specs.Formats.{ReadsAny, ReadsBox}
+use Rattle.format_core.specs.declared.layout.Layout.{Layout}
+use Rattle.format_core.specs.Layouts.{Reading, laid_out}
 use Rattle.row_core.specs.declared.read_fault.ReadFault.{ReadFault}
 use Rattle.layer_core.specs.Layers.{Contents}
 use Rattle.run_core.specs.declared.fault.Input.{Input}
@@ -19,8 +21,8 @@ use Rattle.layer_run_core.specs.Bounds.{ListsCorners}
 use Rattle.layer_run_core.specs.LayerRuns.{LayerGives, layer_fault, made}
 use Rattle.layer_run_core.specs.StatsTexts.{AreCounts}
 use Rattle.layer_run_core.specs.WindowRuns.{WindowGives, text_fault, looked_up, HasWindowFault}
-use Rattle.any_run_core.specs.AnyStats.{AreAnyCounts}
-use Rattle.any_run_core.specs.AnyWindows.{AnyWindowGives, text_fault as any_text_fault, looked_up as any_looked_up}
+use Rattle.layer_run_core.specs.AnyStats.{AreAnyCounts}
+use Rattle.layer_run_core.specs.AnyWindows.{AnyWindowGives, text_fault as any_text_fault, looked_up as any_looked_up}
 use Rattle.words_core.specs.declared.condition.Geometries.{Geometries}
 use Rattle.words_core.specs.declared.condition.Geometries.TheVariants.{Box, Any}
 use Rattle.words_core.specs.declared.words.Command.{Command}
@@ -182,30 +184,30 @@ layer_opens : {G : Type 0} (IsTextOf : Contents G → List ℕ → Type 0) (read
     → LayerGives IsTextOf reads l (Err g) → ⊥
 layer_opens IsTextOf reads l g missing given = gives_only IsTextOf reads l (λ f. IsNoFile f → ⊥) (λ f none. none) g given missing
 
-layer_is_opened : (kind : Geometries) (scale : Scale) (l : Option (List ℕ)) (i : Input) → IsLayerFaultOf kind scale l (run.NoFile i) → ⊥
-layer_is_opened Box scale l i is = is
-layer_is_opened (Any rings) scale l i is = is
+layer_is_opened : (kind : Geometries) (layout : Layout) (scale : Scale) (l : Option (List ℕ)) (i : Input) → IsLayerFaultOf kind layout scale l (run.NoFile i) → ⊥
+layer_is_opened Box layout scale l i is = is
+layer_is_opened (Any rings) layout scale l i is = is
 
 -- ---- a window
 
 -- the text of a window that is a box may have this fault
-abbrev pub HasWindowTextFault : Geometries → Scale → List ℕ → Input → WktFault → Type 0
-HasWindowTextFault Box scale wkt = HasWindowFault scale wkt
-HasWindowTextFault (Any rings) scale wkt = NoTextFault
+abbrev pub HasWindowTextFault : Geometries → Layout → Scale → List ℕ → Input → WktFault → Type 0
+HasWindowTextFault Box layout scale wkt = HasWindowFault scale wkt
+HasWindowTextFault (Any rings) layout scale wkt = NoTextFault
 
-window_opens : (kind : Geometries) (scale : Scale) (wkt : List ℕ) (l : Option (List ℕ)) (g : RunFault) → IsNoFile g
-    → GivesWindow kind scale wkt l (Err g) → ⊥
-window_opens Box scale wkt l g missing gives = by (Err g) gives refl
+window_opens : (kind : Geometries) (layout : Layout) (scale : Scale) (wkt : List ℕ) (l : Option (List ℕ)) (g : RunFault) → IsNoFile g
+    → GivesWindow kind layout scale wkt l (Err g) → ⊥
+window_opens Box layout scale wkt l g missing gives = by (Err g) gives refl
   where
-    by : (answer : Result (List ℕ) RunFault) → WindowGives scale wkt l answer → answer ≡ Err g → ⊥
+    by : (answer : Result (List ℕ) RunFault) → WindowGives layout scale wkt l answer → answer ≡ Err g → ⊥
     by answer (text_fault f a) is = subst IsNoFile (let same : g ≡ run.Wkt input.Window f = cc in same) missing
-    by answer (looked_up s read a given) is = layer_opens _ (ReadsBox scale) l g missing (subst (LayerGives _ (ReadsBox scale) l) is given)
-window_opens (Any rings) scale wkt l g missing gives = by (Err g) gives refl
+    by answer (looked_up s read a given) is = layer_opens _ (laid_out layout (ReadsBox scale)) l g missing (subst (LayerGives _ (laid_out layout (ReadsBox scale)) l) is given)
+window_opens (Any rings) layout scale wkt l g missing gives = by (Err g) gives refl
   where
-    by : (answer : Result (List ℕ) RunFault) → AnyWindowGives (ReadsAny scale rings) wkt l answer → answer ≡ Err g → ⊥
+    by : (answer : Result (List ℕ) RunFault) → AnyWindowGives (laid_out layout (ReadsAny scale rings)) wkt l answer → answer ≡ Err g → ⊥
     by answer (any_text_fault f a) is = subst IsNoFile (let same : g ≡ run.Geometry input.Window f = cc in same) missing
     by answer (any_looked_up w read a given) is =
-        layer_opens _ (ReadsAny scale rings) l g missing (subst (LayerGives _ (ReadsAny scale rings) l) is given)
+        layer_opens _ (laid_out layout (ReadsAny scale rings)) l g missing (subst (LayerGives _ (laid_out layout (ReadsAny scale rings)) l) is given)
 
 -- a fault of the text of a window of this kind, if it is a box
 abbrev IsBoxText : Geometries → RunFault → Type 0
@@ -220,49 +222,49 @@ no_box_text : {P : Type 0} (kind : Geometries) (g : RunFault) → (IsBox kind �
 no_box_text kind (run.Wkt i w) none found = absurd (none found)
 no_box_text kind g none found = absurd found
 
-window_next : (kind : Geometries) (scale : Scale) (wkt : List ℕ) (l : Option (List ℕ)) (g : RunFault) → IsBoxText kind g
-    → GivesWindow kind scale wkt l (Err g) → (i : Input) × (w : WktFault) × (g ≡ run.Wkt i w) × HasWindowTextFault kind scale wkt i w
-window_next Box scale wkt l g found gives = by (Err g) gives refl
+window_next : (kind : Geometries) (layout : Layout) (scale : Scale) (wkt : List ℕ) (l : Option (List ℕ)) (g : RunFault) → IsBoxText kind g
+    → GivesWindow kind layout scale wkt l (Err g) → (i : Input) × (w : WktFault) × (g ≡ run.Wkt i w) × HasWindowTextFault kind layout scale wkt i w
+window_next Box layout scale wkt l g found gives = by (Err g) gives refl
   where
-    by : (answer : Result (List ℕ) RunFault) → WindowGives scale wkt l answer → answer ≡ Err g
+    by : (answer : Result (List ℕ) RunFault) → WindowGives layout scale wkt l answer → answer ≡ Err g
         → (i : Input) × (w : WktFault) × (g ≡ run.Wkt i w) × HasWindowFault scale wkt i w
     by answer (text_fault f a) is = (input.Window, f, (let same : g ≡ run.Wkt input.Window f = cc in same), a)
     by answer (looked_up s read a given) is =
-        absurd (gives_only _ (ReadsBox scale) l (λ f. IsBoxText Box f → ⊥) (λ f none. none) g (subst (LayerGives _ (ReadsBox scale) l) is given) found)
-window_next (Any rings) scale wkt l g found gives = no_box_text (Any rings) g (λ none. none) found
+        absurd (gives_only _ (laid_out layout (ReadsBox scale)) l (λ f. IsBoxText Box f → ⊥) (λ f none. none) g (subst (LayerGives _ (laid_out layout (ReadsBox scale)) l) is given) found)
+window_next (Any rings) layout scale wkt l g found gives = no_box_text (Any rings) g (λ none. none) found
 
-window_text_given : (kind : Geometries) (scale : Scale) (wkt : List ℕ) (l : Option (List ℕ)) (i : Input) (w : WktFault)
-    → HasWindowTextFault kind scale wkt i w → GivesWindow kind scale wkt l (Err (run.Wkt i w))
-window_text_given Box scale wkt l input.Window w a = text_fault w a
-window_text_given Box scale wkt l _ w a = absurd a
-window_text_given (Any rings) scale wkt l i w a = absurd a
+window_text_given : (kind : Geometries) (layout : Layout) (scale : Scale) (wkt : List ℕ) (l : Option (List ℕ)) (i : Input) (w : WktFault)
+    → HasWindowTextFault kind layout scale wkt i w → GivesWindow kind layout scale wkt l (Err (run.Wkt i w))
+window_text_given Box layout scale wkt l input.Window w a = text_fault w a
+window_text_given Box layout scale wkt l _ w a = absurd a
+window_text_given (Any rings) layout scale wkt l i w a = absurd a
 
-window_is_opened : (kind : Geometries) (scale : Scale) (wkt : List ℕ) (l : Option (List ℕ)) (i : Input) → IsWindowFaultOf kind scale wkt l (run.NoFile i) → ⊥
-window_is_opened Box scale wkt l i is = is.1
-window_is_opened (Any rings) scale wkt l i is = is.1
+window_is_opened : (kind : Geometries) (layout : Layout) (scale : Scale) (wkt : List ℕ) (l : Option (List ℕ)) (i : Input) → IsWindowFaultOf kind layout scale wkt l (run.NoFile i) → ⊥
+window_is_opened Box layout scale wkt l i is = is.1
+window_is_opened (Any rings) layout scale wkt l i is = is.1
 
 pub window_runs : (layer : LayerRequest) (wkt : Bor (List ℕ)) → RunsOne (Window layer wkt) layer.path.now
-    (GivesWindow layer.geometries layer.scale wkt.now) (HasWindowTextFault layer.geometries layer.scale wkt.now)
-    (IsWindowFaultOf layer.geometries layer.scale wkt.now)
+    (GivesWindow layer.geometries layer.layout layer.scale wkt.now) (HasWindowTextFault layer.geometries layer.layout layer.scale wkt.now)
+    (IsWindowFaultOf layer.geometries layer.layout layer.scale wkt.now)
 window_runs layer wkt = record {
   gives = λ at answer. ((λ h. h), (λ h. h));
-  none_first = λ l g found. window_opens layer.geometries layer.scale wkt.now l g (found_missing (Window layer wkt) g tt found);
-  next = λ l g found. window_next layer.geometries layer.scale wkt.now l g (box_text layer wkt g found);
-  text_given = window_text_given layer.geometries layer.scale wkt.now;
-  is_opened = window_is_opened layer.geometries layer.scale wkt.now;
-  untold = window_untold layer.geometries layer.scale wkt.now;
+  none_first = λ l g found. window_opens layer.geometries layer.layout layer.scale wkt.now l g (found_missing (Window layer wkt) g tt found);
+  next = λ l g found. window_next layer.geometries layer.layout layer.scale wkt.now l g (box_text layer wkt g found);
+  text_given = window_text_given layer.geometries layer.layout layer.scale wkt.now;
+  is_opened = window_is_opened layer.geometries layer.layout layer.scale wkt.now;
+  untold = window_untold layer.geometries layer.layout layer.scale wkt.now;
   allows = λ known f is. is;
 }
 
 -- the run of a window over a layer of this kind of geometries
 pub window_of_kind : {T S : Type 0} {written : S → Option (List ℕ)} {is_flushed has_failed : S → Bool} {HasFailed : Input → Type 0}
-    (this kind : Geometries) (scale : Scale) (text wkt : List ℕ) (l : Option (List ℕ)) (old new : S) (result : Result T RunFault) → kind ≡ this → text ≡ wkt
-    → RunEnds (GivesWindow this scale text l) (HasWindowTextFault this scale text) (IsWindowFaultOf this scale text l) HasFailed
+    (this kind : Geometries) (layout : Layout) (scale : Scale) (text wkt : List ℕ) (l : Option (List ℕ)) (old new : S) (result : Result T RunFault) → kind ≡ this → text ≡ wkt
+    → RunEnds (GivesWindow this layout scale text l) (HasWindowTextFault this layout scale text) (IsWindowFaultOf this layout scale text l) HasFailed
     written is_flushed has_failed old new result
-    → RunEnds (GivesWindow kind scale wkt l) (HasWindowTextFault kind scale wkt) (IsWindowFaultOf kind scale wkt l) HasFailed
+    → RunEnds (GivesWindow kind layout scale wkt l) (HasWindowTextFault kind layout scale wkt) (IsWindowFaultOf kind layout scale wkt l) HasFailed
     written is_flushed has_failed old new result
-window_of_kind {T} {S} {written} {is_flushed} {has_failed} {HasFailed} this kind scale text wkt l old new result is same ran =
-    let Ran : Geometries → List ℕ → Type 0 = λ k t. RunEnds (GivesWindow k scale t l) (HasWindowTextFault k scale t) (IsWindowFaultOf k scale t l) HasFailed
+window_of_kind {T} {S} {written} {is_flushed} {has_failed} {HasFailed} this kind layout scale text wkt l old new result is same ran =
+    let Ran : Geometries → List ℕ → Type 0 = λ k t. RunEnds (GivesWindow k layout scale t l) (HasWindowTextFault k layout scale t) (IsWindowFaultOf k layout scale t l) HasFailed
     written is_flushed has_failed old new result in
     subst (λ (t : List ℕ). Ran kind t) same (subst (λ (k : Geometries). Ran k text) (sym is) ran)
 
@@ -270,42 +272,42 @@ window_of_kind {T} {S} {written} {is_flushed} {has_failed} {HasFailed} this kind
 
 -- the run of another command over a layer of this kind of geometries
 pub of_kind : {T S : Type 0} {written : S → Option (List ℕ)} {is_flushed has_failed : S → Bool} {HasFailed : Input → Type 0}
-    (Gives : Geometries → Scale → Option (List ℕ) → Result (List ℕ) RunFault → Type 0) (this kind : Geometries) (scale : Scale) (l : Option (List ℕ))
+    (Gives : Geometries → Layout → Scale → Option (List ℕ) → Result (List ℕ) RunFault → Type 0) (this kind : Geometries) (layout : Layout) (scale : Scale) (l : Option (List ℕ))
     (old new : S) (result : Result T RunFault) → kind ≡ this
-    → RunEnds (Gives this scale l) NoTextFault (IsLayerFaultOf this scale l) HasFailed written is_flushed has_failed old new result
-    → RunEnds (Gives kind scale l) NoTextFault (IsLayerFaultOf kind scale l) HasFailed written is_flushed has_failed old new result
-of_kind {T} {S} {written} {is_flushed} {has_failed} {HasFailed} Gives this kind scale l old new result is ran =
-    subst (λ (k : Geometries). RunEnds (Gives k scale l) NoTextFault (IsLayerFaultOf k scale l) HasFailed written is_flushed has_failed old new result)
+    → RunEnds (Gives this layout scale l) NoTextFault (IsLayerFaultOf this layout scale l) HasFailed written is_flushed has_failed old new result
+    → RunEnds (Gives kind layout scale l) NoTextFault (IsLayerFaultOf kind layout scale l) HasFailed written is_flushed has_failed old new result
+of_kind {T} {S} {written} {is_flushed} {has_failed} {HasFailed} Gives this kind layout scale l old new result is ran =
+    subst (λ (k : Geometries). RunEnds (Gives k layout scale l) NoTextFault (IsLayerFaultOf k layout scale l) HasFailed written is_flushed has_failed old new result)
     (sym is) ran
 
-counts_open : (kind : Geometries) (scale : Scale) (l : Option (List ℕ)) (g : RunFault) → IsNoFile g → GivesCounts kind scale l (Err g) → ⊥
-counts_open Box scale l g missing given = layer_opens AreCounts (ReadsBox scale) l g missing given
-counts_open (Any rings) scale l g missing given = layer_opens AreAnyCounts (ReadsAny scale rings) l g missing given
+counts_open : (kind : Geometries) (layout : Layout) (scale : Scale) (l : Option (List ℕ)) (g : RunFault) → IsNoFile g → GivesCounts kind layout scale l (Err g) → ⊥
+counts_open Box layout scale l g missing given = layer_opens AreCounts (laid_out layout (ReadsBox scale)) l g missing given
+counts_open (Any rings) layout scale l g missing given = layer_opens AreAnyCounts (laid_out layout (ReadsAny scale rings)) l g missing given
 
-pub stats_runs : (layer : LayerRequest) → RunsOne (Stats layer) layer.path.now (GivesCounts layer.geometries layer.scale) NoTextFault
-    (IsLayerFaultOf layer.geometries layer.scale)
+pub stats_runs : (layer : LayerRequest) → RunsOne (Stats layer) layer.path.now (GivesCounts layer.geometries layer.layout layer.scale) NoTextFault
+    (IsLayerFaultOf layer.geometries layer.layout layer.scale)
 stats_runs layer = record {
   gives = λ at answer. ((λ h. h), (λ h. h));
-  none_first = λ l g found. counts_open layer.geometries layer.scale l g (found_missing (Stats layer) g tt found);
+  none_first = λ l g found. counts_open layer.geometries layer.layout layer.scale l g (found_missing (Stats layer) g tt found);
   next = λ l g found. absurd found;
   text_given = λ l i w none. absurd none;
-  is_opened = layer_is_opened layer.geometries layer.scale;
-  untold = layer_untold layer.geometries layer.scale;
+  is_opened = layer_is_opened layer.geometries layer.layout layer.scale;
+  untold = layer_untold layer.geometries layer.layout layer.scale;
   allows = λ known f is. is;
 }
 
-corners_open : (kind : Geometries) (scale : Scale) (l : Option (List ℕ)) (g : RunFault) → IsNoFile g → GivesCorners kind scale l (Err g) → ⊥
-corners_open Box scale l g missing given = layer_opens (ListsCorners (λ s. s)) (ReadsBox scale) l g missing given
-corners_open (Any rings) scale l g missing given = layer_opens (ListsCorners box_of) (ReadsAny scale rings) l g missing given
+corners_open : (kind : Geometries) (layout : Layout) (scale : Scale) (l : Option (List ℕ)) (g : RunFault) → IsNoFile g → GivesCorners kind layout scale l (Err g) → ⊥
+corners_open Box layout scale l g missing given = layer_opens (ListsCorners (λ s. s)) (laid_out layout (ReadsBox scale)) l g missing given
+corners_open (Any rings) layout scale l g missing given = layer_opens (ListsCorners box_of) (laid_out layout (ReadsAny scale rings)) l g missing given
 
-pub bounds_runs : (layer : LayerRequest) → RunsOne (Bounds layer) layer.path.now (GivesCorners layer.geometries layer.scale) NoTextFault
-    (IsLayerFaultOf layer.geometries layer.scale)
+pub bounds_runs : (layer : LayerRequest) → RunsOne (Bounds layer) layer.path.now (GivesCorners layer.geometries layer.layout layer.scale) NoTextFault
+    (IsLayerFaultOf layer.geometries layer.layout layer.scale)
 bounds_runs layer = record {
   gives = λ at answer. ((λ h. h), (λ h. h));
-  none_first = λ l g found. corners_open layer.geometries layer.scale l g (found_missing (Bounds layer) g tt found);
+  none_first = λ l g found. corners_open layer.geometries layer.layout layer.scale l g (found_missing (Bounds layer) g tt found);
   next = λ l g found. absurd found;
   text_given = λ l i w none. absurd none;
-  is_opened = layer_is_opened layer.geometries layer.scale;
-  untold = layer_untold layer.geometries layer.scale;
+  is_opened = layer_is_opened layer.geometries layer.layout layer.scale;
+  untold = layer_untold layer.geometries layer.layout layer.scale;
   allows = λ known f is. is;
 }

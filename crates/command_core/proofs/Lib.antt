@@ -1,7 +1,7 @@
 pub mod CommandLemmas
 pub mod ImproperLemmas
-pub mod JoinCommandLemmas
 pub mod KnownLemmas
 pub mod LayerCommandLemmas
+pub mod PairCommandLemmas
 pub mod SkipLemmas
 pub mod WordLemmas

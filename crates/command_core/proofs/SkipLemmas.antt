@@ -71,7 +71,7 @@ with_none (Ok x) P Q has none = (has, none)
 with_none (Err e) P Q has none = tt
 
 pub of_request : {T : Type 0} (result : Result T RunFault) (known : Option Files) (layer : LayerRequest) (rows : RowLists) → rows.layers ≡ no_rows_marked
-    → OnOk result (LayerRows layer.geometries layer.scale (bytes_at known layer.path.now) rows.layer) → OnOk result (RequestRows known layer rows)
+    → OnOk result (LayerRows layer.geometries layer.layout layer.scale (bytes_at known layer.path.now) rows.layer) → OnOk result (RequestRows known layer rows)
 of_request (Ok x) known layer rows none has = record { layers = none; layer = has }
 of_request (Err e) known layer rows none has = tt
 

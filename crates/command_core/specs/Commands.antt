@@ -3,6 +3,7 @@ use Rattle.std.specs.Prelude.{◌≡◌, ◌≢◌, ⊤, ℕ, List, [], ◌∷�
 use Rattle.std.specs.Prelude.{Result, Ok, Err, IfSome, IfErr}
 use Rattle.relation_core.specs.Matrices.{letters_of}
 use Rattle.number_core.specs.declared.scale.Scale.{Scale}
+use Rattle.format_core.specs.declared.layout.Layout.{Layout}
 use Rattle.relate_any_core.specs.TextMatrices.{HasTextFault, IsRelated}
 use Rattle.relate_any_core.specs.declared.improper.Improper.{Improper}
 use Rattle.relate_any_core.specs.declared.texts.Related.{Related}
@@ -13,13 +14,11 @@ use Rattle.run_core.specs.declared.fault.RunFault.TheVariants as run
 use Rattle.run_core.specs.Inputs.{BlamesInput}
 use Rattle.join_core.specs.Relating.{RelateGives, IsTextFault}
 use Rattle.run_core.specs.Runs.{Ends}
-use Rattle.command_core.specs.JoinResults.{JoinRequestGives, IsJoinRequestFault, PathsGive}
-use Rattle.command_core.specs.JoinResults.{known_bytes}
+use Rattle.command_core.specs.Asked.{Asked, IsAskedFault, PathsGive, known_bytes}
 use Rattle.command_core.specs.LayerResults.{GivesCorners, GivesCounts, GivesWindow}
 use Rattle.command_core.specs.LayerResults.{IsLayerFaultOf, IsWindowFaultOf}
-use Rattle.command_core.specs.NearResults.{NearRequestGives, IsNearRequestFault}
-use Rattle.command_core.specs.NearestResults.{NearestRequestGives, IsNearestRequestFault}
 use Rattle.command_core.specs.Opening.{AfterOpening, Files, bytes_at}
+use Rattle.command_core.specs.Requests.{join_asks, near_asks, nearest_asks}
 use Rattle.words_core.specs.declared.condition.Geometries.{Geometries}
 use Rattle.words_core.specs.declared.condition.Geometries.TheVariants.{Box, Any}
 use Rattle.words_core.specs.declared.words.Command.{Command}
@@ -41,21 +40,21 @@ GeometriesGive (Any rings) scale a b (Err (run.Geometry input.Second fault)) =
 GeometriesGive (Any rings) scale a b (Err _) = ⊥
 
 -- the result of a layer's file, which is opened first
-abbrev pub LayerPathGives : (Geometries → Scale → Option (List ℕ) → Result (List ℕ) RunFault
-    → Type 0) → Files → LayerRequest → Result (List ℕ) RunFault → Type 0
+abbrev pub LayerPathGives : (Geometries → Layout → Scale → Option (List ℕ)
+    → Result (List ℕ) RunFault → Type 0) → Files → LayerRequest → Result (List ℕ) RunFault → Type 0
 LayerPathGives Gives at layer answer =
     AfterOpening input.Layer (at layer.path.now) answer
-    (λ bytes. Gives layer.geometries layer.scale (Some bytes) answer)
+    (λ bytes. Gives layer.geometries layer.layout layer.scale (Some bytes) answer)
 
 abbrev pub CommandGives : Files → Command → Result (List ℕ) RunFault → Type 0
 CommandGives at (Relate request) answer =
     GeometriesGive request.geometries request.scale request.a.now request.b.now answer
-CommandGives at (Join join) answer = PathsGive at join.paths (JoinRequestGives join) answer
-CommandGives at (Near near) answer = PathsGive at near.paths (NearRequestGives near) answer
-CommandGives at (Nearest nearest) answer =
-    PathsGive at nearest.paths (NearestRequestGives nearest) answer
+CommandGives at (Join join) answer = PathsGive at (join_asks join) answer
+CommandGives at (Near near) answer = PathsGive at (near_asks near) answer
+CommandGives at (Nearest nearest) answer = PathsGive at (nearest_asks nearest) answer
 CommandGives at (Window layer wkt) answer =
-    LayerPathGives (λ geometries scale. GivesWindow geometries scale wkt.now) at layer answer
+    LayerPathGives (λ geometries layout scale. GivesWindow geometries layout scale wkt.now) at layer
+    answer
 CommandGives at (Stats layer) answer = LayerPathGives GivesCounts at layer answer
 CommandGives at (Bounds layer) answer = LayerPathGives GivesCorners at layer answer
 
@@ -113,6 +112,10 @@ OrNoFile IsRunFault (run.NoFile input) = ⊤
 OrNoFile IsRunFault run.NoKeys = ⊤
 OrNoFile IsRunFault fault = IsRunFault fault
 
+-- a possible fault of a command that asks this of two layers, except that of its sink
+abbrev pub IsPairFault : Option Files → Asked → RunFault → Type 0
+IsPairFault known asked = OrNoFile (IsAskedFault asked (known_bytes known asked.paths))
+
 -- a possible fault of relating two texts, except that of its sink
 abbrev pub IsRelateFault : Geometries → RunFault → Type 0
 IsRelateFault Box fault = IsTextFault fault
@@ -124,16 +127,18 @@ IsRelateFault (Any rings) _ = ⊥
 -- a possible fault of a command, except that of its sink, if the content of its files is known
 abbrev pub IsFaultOf : Option Files → Command → RunFault → Type 0
 IsFaultOf known (Relate request) = IsRelateFault request.geometries
-IsFaultOf known (Join join) = OrNoFile (IsJoinRequestFault join (known_bytes known join.paths))
-IsFaultOf known (Near near) = OrNoFile (IsNearRequestFault near (known_bytes known near.paths))
-IsFaultOf known (Nearest nearest) =
-    OrNoFile (IsNearestRequestFault nearest (known_bytes known nearest.paths))
+IsFaultOf known (Join join) = IsPairFault known (join_asks join)
+IsFaultOf known (Near near) = IsPairFault known (near_asks near)
+IsFaultOf known (Nearest nearest) = IsPairFault known (nearest_asks nearest)
 IsFaultOf known (Window layer wkt) = OrNoLayer
-    (IsWindowFaultOf layer.geometries layer.scale wkt.now (bytes_at known layer.path.now))
+    (IsWindowFaultOf layer.geometries layer.layout layer.scale wkt.now
+    (bytes_at known layer.path.now))
 IsFaultOf known (Stats layer) =
-    OrNoLayer (IsLayerFaultOf layer.geometries layer.scale (bytes_at known layer.path.now))
+    OrNoLayer (IsLayerFaultOf layer.geometries layer.layout layer.scale
+    (bytes_at known layer.path.now))
 IsFaultOf known (Bounds layer) =
-    OrNoLayer (IsLayerFaultOf layer.geometries layer.scale (bytes_at known layer.path.now))
+    OrNoLayer (IsLayerFaultOf layer.geometries layer.layout layer.scale
+    (bytes_at known layer.path.now))
 
 -- how a command ends: its output, its fault, exactly when the faults that are found first and next
 -- come, and that no others do

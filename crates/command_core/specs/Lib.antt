@@ -1,11 +1,10 @@
+pub mod Asked
 pub mod Commands
 pub mod Endings
 pub mod ImproperRows
-pub mod JoinResults
 pub mod LayerResults
-pub mod NearResults
-pub mod NearestResults
 pub mod Opening
+pub mod Requests
 pub mod Skipping
 pub mod Storing
 pub mod WordFaults

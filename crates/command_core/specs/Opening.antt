@@ -1,6 +1,7 @@
 -- The results of opening a file, and the known content of the files of a join.
 use Rattle.std.specs.Prelude.{◌≡◌, ⊤, ℕ, List, Option, Some, None, Result, Ok, Err, IfSome}
 use Rattle.std.specs.Borrow.{Bor}
+use Rattle.format_core.specs.declared.layout.Layout.{Layout}
 use Rattle.run_core.specs.declared.fault.Input.{Input}
 use Rattle.run_core.specs.declared.fault.Input.TheVariants.{Left, Right, Edits, Layer}
 use Rattle.run_core.specs.declared.fault.RunFault.{RunFault}
@@ -54,8 +55,10 @@ pub data IsLayerUnready (known : Option Files) (path : List ℕ) : RunFault → 
   no_file : IsMissing known path → IsLayerUnready known path (NoFile Layer)
   no_keys : (told : Option (List ℕ)) → IsAt known path told → IsLayerUnready known path NoKeys
 
--- the known bytes of the files of a join; there may be no file of edits
+-- the layout of the layers' files of a join, and the known bytes of its files; there may be no file
+-- of edits
 pub record JoinBytes : Type 0 where
+  pub layout : Layout
   pub left : Option (List ℕ)
   pub right : Option (List ℕ)
   pub edits : Option (Option (List ℕ))
@@ -63,6 +66,7 @@ pub record JoinBytes : Type 0 where
 -- those of its opened files
 abbrev pub bytes_in : {F : Type 0} → (F → Option (List ℕ)) → JoinSources F F F → JoinBytes
 bytes_in remaining sources = record {
+  layout = sources.layout;
   left = remaining sources.left;
   right = remaining sources.right;
   edits = bytes_of remaining sources.edits;
@@ -70,6 +74,7 @@ bytes_in remaining sources = record {
 
 -- the bytes at the paths of layers, as reported by its opened files
 pub record AreOpened (known : Option Files) (paths : LayerPaths) (told : JoinBytes) : Type 0 where
+  pub laid : told.layout ≡ paths.layout
   pub at_left : IsAt known paths.left.now told.left
   pub at_right : IsAt known paths.right.now told.right
   pub at_edits : AreEditsAt known paths.edits told.edits

@@ -3,29 +3,17 @@ use Rattle.std.specs.Prelude.{◌≡◌, ◌≢◌, ⊤, ℕ, List, ◌++◌, Op
 use Rattle.std.specs.Prelude.{decimal}
 use Rattle.std.specs.Prelude.{IfErr, IsErrOf, IsSome, MatchOption, OnOk, length}
 use Rattle.std.specs.Borrow.{Bor}
-use Rattle.number_core.specs.declared.scale.Scale.{Scale}
-use Rattle.any_relation_core.specs.AnyRelations.{rings_of}
-use Rattle.format_core.specs.Formats.{ReadsAny, ReadsBox}
-use Rattle.any_near_core.specs.NearFormats.{ReadsGrown}
-use Rattle.any_near_core.specs.AnyNearFormats.{ReadsGrownAny}
-use Rattle.near_run_core.specs.declared.job.NearJob.{NearJob}
-use Rattle.near_run_core.specs.declared.job.NearestJob.{NearestJob}
 use Rattle.run_core.specs.declared.fault.RunFault.{RunFault}
 use Rattle.run_core.specs.declared.fault.RunFault.TheVariants.{Memory, NotStored, Write}
 use Rattle.run_core.specs.EditedLayers.{AreRowsSkipped, SkippedLists}
 use Rattle.run_core.specs.Lines.{line_of}
 use Rattle.run_core.specs.SkippedTexts.{skipped_text}
-use Rattle.words_core.specs.declared.condition.Condition.{Condition}
-use Rattle.words_core.specs.declared.condition.Condition.TheVariants.{Boxes, Any}
-use Rattle.words_core.specs.declared.condition.Geometries.{Geometries}
-use Rattle.words_core.specs.declared.condition.Geometries.TheVariants as kinds
 use Rattle.words_core.specs.declared.words.Command.{Command}
 use Rattle.words_core.specs.declared.words.Command.TheVariants.{Join, Near, Nearest}
 use Rattle.command_core.specs.declared.notes.SkippedCounts.{SkippedCounts}
-use Rattle.command_core.specs.JoinResults.{files_read, known_bytes}
-use Rattle.command_core.specs.NearResults.{job_of}
-use Rattle.command_core.specs.NearestResults.{nearest_job_of}
+use Rattle.command_core.specs.Asked.{Asked, files_read, known_bytes}
 use Rattle.command_core.specs.Opening.{Files, JoinBytes}
+use Rattle.command_core.specs.Requests.{join_asks, near_asks, nearest_asks}
 use Rattle.command_core.specs.Storing.{Stored, Stores}
 
 -- the path of the list of skipped rows, if a command asks for it
@@ -35,38 +23,19 @@ skip_of (Near near) = near.paths.skip
 skip_of (Nearest nearest) = nearest.paths.skip
 skip_of _ = None
 
--- the rows that a join by this condition skips, given the bytes of its files
-abbrev pub ConditionSkips : Condition → Scale → Option (Bor (List ℕ)) → JoinBytes → SkippedLists
-    → Type 0
-ConditionSkips (Boxes relation) scale skip bytes =
-    AreRowsSkipped (files_read skip (ReadsBox scale) bytes)
-ConditionSkips (Any relation) scale skip bytes =
-    AreRowsSkipped (files_read skip (ReadsAny scale (rings_of relation)) bytes)
+-- the rows that a command skips of the files of layers, given their bytes
+abbrev pub AskedSkips : Asked → JoinBytes → SkippedLists → Type 0
+AskedSkips asked bytes = AreRowsSkipped (files_read asked bytes)
 
--- the rows that a join by distance skips, with geometries of this kind
-abbrev pub KindSkips : Geometries → NearJob → Option (Bor (List ℕ)) → JoinBytes → SkippedLists
-    → Type 0
-KindSkips kinds.Box job skip bytes =
-    AreRowsSkipped (files_read skip (ReadsGrown job.scale job.distance) bytes)
-KindSkips (kinds.Any rings) job skip bytes =
-    AreRowsSkipped (files_read skip (ReadsGrownAny job.scale rings job.distance) bytes)
-
--- the rows that a search for the nearest features skips, with geometries of this kind
-abbrev pub NearestKindSkips : Geometries → NearestJob → Option (Bor (List ℕ)) → JoinBytes
-    → SkippedLists → Type 0
-NearestKindSkips kinds.Box job skip bytes =
-    AreRowsSkipped (files_read skip (ReadsBox job.scale) bytes)
-NearestKindSkips (kinds.Any rings) job skip bytes =
-    AreRowsSkipped (files_read skip (ReadsAny job.scale rings) bytes)
+-- the same, as far as their content is known
+abbrev pub KnownSkips : Option Files → Asked → SkippedLists → Type 0
+KnownSkips known asked = AskedSkips asked (known_bytes known asked.paths)
 
 -- the rows that a command skips, as far as the content of its files is known
 abbrev pub CommandSkips : Option Files → Command → SkippedLists → Type 0
-CommandSkips known (Join join) =
-    ConditionSkips join.condition join.scale join.paths.skip (known_bytes known join.paths)
-CommandSkips known (Near near) =
-    KindSkips near.geometries (job_of near) near.paths.skip (known_bytes known near.paths)
-CommandSkips known (Nearest nearest) = NearestKindSkips nearest.geometries
-    (nearest_job_of nearest) nearest.paths.skip (known_bytes known nearest.paths)
+CommandSkips known (Join join) = KnownSkips known (join_asks join)
+CommandSkips known (Near near) = KnownSkips known (near_asks near)
+CommandSkips known (Nearest nearest) = KnownSkips known (nearest_asks nearest)
 CommandSkips known _ = λ rows. ⊤
 
 -- the list of these rows is stored at this path, if there is one

@@ -7,7 +7,7 @@ use Rattle.words_core.specs.declared.words.WordFault.{WordFault}
 use Rattle.words_core.specs.declared.words.WordFault.TheVariants.{Usage, Relation, AllowsDisjoint}
 use Rattle.words_core.specs.declared.words.WordFault.TheVariants.{Options, Scale, Distance, Most}
 use Rattle.words_core.specs.declared.words.WordFault.TheVariants.{Geometry, RingsOfBoxes, Rings}
-use Rattle.words_core.specs.declared.words.WordFault.TheVariants.{Memory}
+use Rattle.words_core.specs.declared.words.WordFault.TheVariants.{Delimiter, Memory}
 
 abbrev pub word_status_of : WordFault → ℕ
 word_status_of (Usage text true) = 0
@@ -21,6 +21,7 @@ word_status_of Most = 2
 word_status_of Geometry = 2
 word_status_of RingsOfBoxes = 2
 word_status_of Rings = 2
+word_status_of Delimiter = 2
 word_status_of Memory = 1
 
 abbrev pub distance_text : List ℕ
@@ -38,4 +39,5 @@ word_fault_line Most = line_of (codes "--most must be 1 to 4294967295")
 word_fault_line Geometry = line_of (codes "--geometry must be box or any")
 word_fault_line RingsOfBoxes = line_of (codes "--rings needs --geometry any")
 word_fault_line Rings = line_of (codes "--rings must be proper or even-odd")
+word_fault_line Delimiter = line_of (codes "--delimiter must be , ; or tab")
 word_fault_line Memory = line_of (codes "no memory")

@@ -20,7 +20,9 @@ pub trait Inputs {
 
     /// Opens the file at a path, for reading from its start.
     fn open(&self, path: &str) -> Result<Self::File, NotOpened>
+        // of whatever opens files, it answers what lies at the path
         ensures file { IfSome (files self.now) (λ at.
             Opens Self.File.remaining (at path.now) result) }
+        // a file that hasn't failed
         ensures fresh { IfOk result (λ file. Self.File.has_failed file ≡ false) };
 }

@@ -8,10 +8,12 @@ ghost use Rattle.words_core.specs.declared.words.Command.TheVariants.{Bounds, St
 
 use crate::inputs::Inputs;
 use crate::opening::open_layer;
-use any_run_core::{run_any_stats, run_any_window};
 use file_core::LayerReader;
-use format_core::AnyFormat;
-use layer_run_core::{DEFAULT_WORKERS, run_bounds, run_bounds_marking, run_stats, run_window};
+use format_core::{AnyFormat, LaidOut};
+use layer_run_core::{
+    DEFAULT_WORKERS, run_any_stats, run_any_window, run_bounds, run_bounds_marking, run_stats,
+    run_window,
+};
 use report_core::Sink;
 use run_core::{ImproperRings, RunFault};
 use std::random::RandomSource;
@@ -33,18 +35,29 @@ pub fn execute_window<R: RandomSource + AllocGlobal + Threads + Sync, I: Inputs,
         (Window request.now wkt.entry) output.old output.new result }
     ensures rows { let request = request.now in
         let bytes = bytes_at (I.files inputs.now) request.path.now in
-        OnOk result (LayerRows request.geometries request.scale bytes improper.new.items) }
+        let rows = improper.new.items in
+        OnOk result (LayerRows request.geometries request.layout request.scale bytes rows) }
 {
     let (mut layer, state) = open_layer(rt, inputs, request.path)?;
     let wkt = wkt.as_bytes();
-    let scale = request.scale;
+    let LayerRequest { layout, scale, .. } = *request;
     match request.geometries {
-        Geometries::Box => run_window(rt, rt.alloc(), state, scale, &mut layer, wkt, output),
+        Geometries::Box => {
+            let format = LaidOut {
+                layout,
+                format: scale,
+            };
+            run_window(rt, rt.alloc(), state, format, &mut layer, wkt, output)
+        }
         Geometries::Any(rings) => {
+            let format = LaidOut {
+                layout,
+                format: AnyFormat { scale, rings },
+            };
             let reader = LayerReader {
                 rt,
                 alloc: rt.alloc(),
-                format: AnyFormat { scale, rings },
+                format,
                 threads: DEFAULT_WORKERS,
             };
             run_any_window(&reader, state, &mut layer, wkt, improper, output)
@@ -66,14 +79,24 @@ pub fn execute_stats<R: RandomSource + AllocGlobal + Threads + Sync, I: Inputs, 
         (Stats request.now) output.old output.new result }
     ensures rows { let request = request.now in
         let bytes = bytes_at (I.files inputs.now) request.path.now in
-        OnOk result (LayerRows request.geometries request.scale bytes improper.new.items) }
+        let rows = improper.new.items in
+        OnOk result (LayerRows request.geometries request.layout request.scale bytes rows) }
 {
     let (mut layer, state) = open_layer(rt, inputs, request.path)?;
-    let scale = request.scale;
+    let LayerRequest { layout, scale, .. } = *request;
     match request.geometries {
-        Geometries::Box => run_stats(rt, rt.alloc(), state, scale, &mut layer, output),
+        Geometries::Box => {
+            let format = LaidOut {
+                layout,
+                format: scale,
+            };
+            run_stats(rt, rt.alloc(), state, format, &mut layer, output)
+        }
         Geometries::Any(rings) => {
-            let format = AnyFormat { scale, rings };
+            let format = LaidOut {
+                layout,
+                format: AnyFormat { scale, rings },
+            };
             run_any_stats(rt, rt.alloc(), state, format, &mut layer, improper, output)
         }
     }
@@ -93,17 +116,28 @@ pub fn execute_bounds<R: RandomSource + AllocGlobal + Threads + Sync, I: Inputs,
         (Bounds request.now) output.old output.new result }
     ensures rows { let request = request.now in
         let bytes = bytes_at (I.files inputs.now) request.path.now in
-        OnOk result (LayerRows request.geometries request.scale bytes improper.new.items) }
+        let rows = improper.new.items in
+        OnOk result (LayerRows request.geometries request.layout request.scale bytes rows) }
 {
     let (mut layer, state) = open_layer(rt, inputs, request.path)?;
-    let scale = request.scale;
+    let LayerRequest { layout, scale, .. } = *request;
     match request.geometries {
-        Geometries::Box => run_bounds(rt, rt.alloc(), state, scale, &mut layer, output),
+        Geometries::Box => {
+            let format = LaidOut {
+                layout,
+                format: scale,
+            };
+            run_bounds(rt, rt.alloc(), state, format, &mut layer, output)
+        }
         Geometries::Any(rings) => {
+            let format = LaidOut {
+                layout,
+                format: AnyFormat { scale, rings },
+            };
             let reader = LayerReader {
                 rt,
                 alloc: rt.alloc(),
-                format: AnyFormat { scale, rings },
+                format,
                 threads: DEFAULT_WORKERS,
             };
             let marks = ImproperRings { rings };

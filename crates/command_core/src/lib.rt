@@ -13,6 +13,7 @@ mod nearest;
 mod notes;
 mod opening;
 mod outputs;
+mod pairs;
 mod program;
 mod relating;
 mod skipping;

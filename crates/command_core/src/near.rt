@@ -1,94 +1,35 @@
 //! Joins of two layers of boxes or of any geometry by distance, after a file of edits.
 
-ghost use Rattle.std.specs.Prelude.{◌≡◌, Ok, Err, false, IfOk, IfErr, OnOk};
-ghost use Rattle.run_core.specs.Inputs.{BlamesInput};
-ghost use Rattle.run_core.specs.EditedLayers.{SkippedLists, skipped_lists};
-ghost use Rattle.run_core.specs.Marks.{marked_lists, no_rows};
-ghost use Rattle.run_core.specs.SourceStates.{AreFresh, TellsFailures};
-ghost use Rattle.run_core.specs.Texts.{bytes_of_text};
-ghost use Rattle.command_core.specs.Commands.{CommandEnds};
-ghost use Rattle.command_core.specs.NearResults.{NearRequestGives, IsKindFault, job_of};
-ghost use Rattle.command_core.specs.ImproperRows.{KindRows};
-ghost use Rattle.command_core.specs.JoinResults.{known_bytes};
-ghost use Rattle.command_core.specs.Opening.{bytes_in};
-ghost use Rattle.command_core.specs.Skipping.{KindSkips, SkipEnds, counts_for};
-ghost use Rattle.words_core.specs.declared.words.Command.TheVariants.{Near};
+ghost use Rattle.run_core.specs.Marks.{marked_lists};
+ghost use Rattle.run_core.specs.SourceStates.{AreFresh};
+ghost use Rattle.command_core.specs.Asked.{MakesAsked};
+ghost use Rattle.command_core.specs.Requests.{near_asks};
 
-use crate::inputs::Inputs;
-use crate::notes::SkippedCounts;
-use crate::opening::{hash_states, open_sources};
-use crate::outputs::Outputs;
-use crate::skipping::{counts_for, unreadable_for, write_made};
 use crate::workers::options_for;
-use near_run_core::{AnyNearJob, NearJob, any_near_text, near_text};
-use report_core::Sink;
+use file_core::Unreadable;
+use format_core::AnyFormat;
+use near_run_core::{NearForm, NearJob, near_text};
 use row_core::Source;
-use run_core::{JoinSources, JoinText, MarkedRows, RunFault};
+use run_core::{ImproperRings, JoinSources, JoinText, MarkedRows, RunFault, Unmarked};
 use std::hash::RandomState;
-use std::random::RandomSource;
 use std::sync::Wait;
 use std::thread::Threads;
 use words_core::{Geometries, NearRequest};
 
-/// Writes the report of a join by distance, and before it the list of the rows that were skipped,
-/// whose numbers are recorded, if it is asked for. Records the rows with improper rings.
-pub fn execute_near<
-    R: RandomSource + AllocGlobal + Threads + Wait + Sync,
-    I: Inputs + Outputs,
-    O: Sink,
->(
-    rt: &R,
-    files: &mut I,
-    near: &NearRequest<'_>,
-    output: &mut O,
-    skipped: &mut Option<SkippedCounts>,
-    improper: &mut MarkedRows,
-) -> Result<(), RunFault>
-    requires output { O.has_failed output.old ≡ false }
-    requires none { marked_lists improper.old ≡ no_rows }
-    ensures ends { CommandEnds (I.files files.old) O.written O.is_flushed O.has_failed
-        (Near near.now) output.old output.new result }
-    ensures skips { (rows : SkippedLists) × SkipEnds (I.files files.old) (Near near.now)
-        (I.stored files.old) (I.stored files.new) rows result
-        × OnOk result (skipped.new ≡ counts_for near.now.paths.skip rows) }
-    ensures rows { let bytes = known_bytes (I.files files.old) near.now.paths in
-        let rows = marked_lists improper.new in
-        OnOk result (KindRows near.now.geometries (job_of near.now) near.now.paths.skip
-        bytes rows) }
-{
-    let mut sources = open_sources(files, &near.paths)?;
-    let states = hash_states(rt)?;
-    let made = request_text(rt, near, states, &mut sources, improper)?;
-    *skipped = counts_for(&made.skipped, near.paths.skip);
-    write_made(rt.alloc(), &made, near.paths.skip, files, output)
-}
-
-/// The report of a join of opened files by distance, and the rows that were skipped. `states` hash
-/// the ids of the two layers.
-fn request_text<R: AllocGlobal + Threads + Wait + Sync, F: Source>(
+/// The report of a join of opened files by distance, and the rows that were skipped, where
+/// `unreadable` is [`Unreadable::Skip`]. `states` hash the ids of the two layers.
+pub fn near_request_text<R: AllocGlobal + Threads + Wait + Sync, F: Source>(
     rt: &R,
     near: &NearRequest<'_>,
+    unreadable: Unreadable,
     states: (RandomState, RandomState),
     sources: &mut JoinSources<F, F, F>,
     improper: &mut MarkedRows,
 ) -> Result<JoinText, RunFault>
-    requires fresh { AreFresh F.has_failed F.has_failed F.has_failed sources.old }
-    requires none { marked_lists improper.old ≡ no_rows }
-    ensures ok { let gives = NearRequestGives near.now (bytes_in F.remaining sources.old) in
-        IfOk result (λ made. gives (Ok (bytes_of_text made.text))) }
-    ensures skipped { let request = near.now in let bytes = bytes_in F.remaining sources.old in
-        IfOk result (λ made. KindSkips request.geometries (job_of request) request.paths.skip
-        bytes (skipped_lists made.skipped)) }
-    ensures rows { let request = near.now in let bytes = bytes_in F.remaining sources.old in
-        OnOk result (KindRows request.geometries (job_of request) request.paths.skip bytes
-        (marked_lists improper.new)) }
-    ensures fault { let gives = NearRequestGives near.now (bytes_in F.remaining sources.old) in
-        IfErr result (λ f. BlamesInput f → gives (Err f)) }
-    ensures faults { let request = near.now in let bytes = bytes_in F.remaining sources.old in
-        IfErr result (IsKindFault request.geometries (job_of request) request.paths.skip bytes) }
-    ensures io { TellsFailures F.has_failed F.has_failed F.has_failed sources.new result }
+    requires { AreFresh F.has_failed F.has_failed F.has_failed sources.old }
+    ensures { MakesAsked (near_asks near.now) unreadable F.remaining F.has_failed sources.old
+        sources.new (marked_lists improper.new) result }
 {
-    let unreadable = unreadable_for(near.paths.skip);
     let job = NearJob {
         scale: near.scale,
         distance: near.distance,
@@ -96,10 +37,21 @@ fn request_text<R: AllocGlobal + Threads + Wait + Sync, F: Source>(
         options: options_for(rt, near.options, near.workers),
     };
     match near.geometries {
-        Geometries::Box => near_text(rt, &job, unreadable, states, sources),
+        Geometries::Box => {
+            let form = NearForm {
+                format: near.scale,
+                marks: Unmarked,
+            };
+            near_text(rt, &job, form, unreadable, states, sources, improper)
+        }
         Geometries::Any(rings) => {
-            let job = AnyNearJob { near: job, rings };
-            any_near_text(rt, &job, unreadable, states, sources, improper)
+            let format = AnyFormat {
+                scale: near.scale,
+                rings,
+            };
+            let marks = ImproperRings { rings };
+            let form = NearForm { format, marks };
+            near_text(rt, &job, form, unreadable, states, sources, improper)
         }
     }
 }

@@ -13,10 +13,10 @@ use std::random::RandomSource;
 use words_core::LayerPaths;
 
 /// Opens the files at these paths, in the order left, right, edits.
-pub fn open_sources<I: Inputs>(
+pub fn open_sources<'a, I: Inputs>(
     inputs: &I,
-    paths: &LayerPaths<'_>,
-) -> Result<JoinSources<I::File, I::File, I::File>, RunFault>
+    paths: &LayerPaths<'a>,
+) -> Result<JoinSources<'a, I::File, I::File, I::File>, RunFault>
     ensures opened { IfOk result (λ sources.
         AreOpened (I.files inputs.now) paths.now (bytes_in I.File.remaining sources)) }
     ensures fresh { IfOk result
@@ -26,7 +26,12 @@ pub fn open_sources<I: Inputs>(
     let left = open_input(inputs, Input::Left, paths.left)?;
     let right = open_input(inputs, Input::Right, paths.right)?;
     let edits = open_edits(inputs, paths.edits)?;
-    Ok(JoinSources { left, right, edits })
+    Ok(JoinSources {
+        left,
+        right,
+        edits,
+        layout: paths.layout,
+    })
 }
 
 /// Opens the file of a layer, and draws random keys for hashing its ids.

@@ -18,6 +18,8 @@ pub trait Outputs {
     /// Stores these bytes as the file at a path, in place of what is there. A file is stored whole
     /// or not at all.
     fn store(&mut self, path: &str, bytes: &[u8]) -> Result<(), NotStored>
+        // of whatever stores files, the file at the path has exactly these bytes
         ensures ok { OnOk result (Stores (stored self.old) (stored self.new) path.now bytes.now) }
+        // otherwise nothing is stored
         ensures err { OnErr result (stored self.new ≡ stored self.old) };
 }

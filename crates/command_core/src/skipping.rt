@@ -4,7 +4,7 @@ ghost use Rattle.std.specs.Prelude.{◌≡◌, ◌≢◌, false, IfErr, OnErr, O
 ghost use Rattle.run_core.specs.EditedLayers.{skipped_lists};
 ghost use Rattle.run_core.specs.Runs.{Ends};
 ghost use Rattle.run_core.specs.Texts.{bytes_of_text};
-ghost use Rattle.command_core.specs.JoinResults.{unreadable_for};
+ghost use Rattle.command_core.specs.Asked.{unreadable_for};
 ghost use Rattle.command_core.specs.Skipping.{IsStoreFault, StoresFirst, StoresList, counts_for};
 
 use crate::notes::{Notes, SkippedCounts};

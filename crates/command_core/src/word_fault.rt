@@ -27,6 +27,7 @@ pub fn word_status(fault: &WordFault) -> u8
         WordFault::Geometry => 2,
         WordFault::RingsOfBoxes => 2,
         WordFault::Rings => 2,
+        WordFault::Delimiter => 2,
         WordFault::Memory => 1,
     }
 }
@@ -35,6 +36,7 @@ pub fn word_status(fault: &WordFault) -> u8
 /// own lines.
 pub fn word_line<S: Sink>(fault: &WordFault, sink: &mut S) -> Result<(), WriteFailed>
     requires { S.has_failed sink.old ≡ false }
+    // the line of every fault of the words
     ensures ok { OnOk result (Appends (S.written sink.old) (S.written sink.new)
         (word_fault_line fault.now)) }
     ensures flushed { OnOk result (IsTrue (S.is_flushed sink.new)) }
@@ -66,6 +68,7 @@ pub fn word_line<S: Sink>(fault: &WordFault, sink: &mut S) -> Result<(), WriteFa
         WordFault::Geometry => line.push("--geometry must be box or any"),
         WordFault::RingsOfBoxes => line.push("--rings needs --geometry any"),
         WordFault::Rings => line.push("--rings must be proper or even-odd"),
+        WordFault::Delimiter => line.push("--delimiter must be , ; or tab"),
         WordFault::Memory => line.push("no memory"),
     }
     line.write(sink)

@@ -2,6 +2,7 @@
 
 use crate::read_words::{asks, is_refused, parted};
 use any_relation_core::AnyRelation;
+use format_core::Layout;
 use number_core::{Rounding, Scale};
 use pair_core::{Options, Product};
 use plane_core::Rings;
@@ -29,6 +30,7 @@ const GEOMETRIES: &[(&str, Geometries)] = &[
 fn layer(scale: Scale, geometries: Geometries) -> LayerRequest<'static> {
     LayerRequest {
         path: "l.csv",
+        layout: Layout::plain(),
         scale,
         geometries,
     }
@@ -125,6 +127,7 @@ fn joins(rt: HostRuntime) -> Result<(), Fail> {
                 right: "q.csv",
                 edits: None,
                 skip: None,
+                layout: Layout::plain(),
             },
             condition,
             options,

@@ -23,6 +23,7 @@ Options:
 Layers are CSV files with the header id,wkt and one feature per row:
   id,wkt
   mill lane,\"LINESTRING (10 0, 10 10)\"
+With --columns ID,GEOMETRY they may have any columns, of which these two are read.
 
 Geometries are points, segments along an axis and rectangles, as well-known text:
   POINT (4 4)
@@ -86,22 +87,30 @@ Arguments:
   <RIGHT>  CSV file of the right layer
 
 Options:
-      --relation <relation>  Name of a relation, or mask of nine letters
-      --pairs                Write the two ids of each pair, without the matrix
-      --edits <edits>        CSV file of edits, which are applied before the join
-      --skip <skip>          CSV file for rows whose geometry can't be read, which are left out
-      --workers <workers>    Number of threads, 1 to 16, or auto for one per processor [default: 4]
-      --batch <batch>        Pairs per batch, 1 to 4096 [default: 256]
-      --cut <cut>            Rounds of cutting the trees into tasks, 0 to 8 [default: 2]
-      --scale <scale>        Decimals that a coordinate may have, 0 to 6 [default: 0]
-      --round                Read each number as the nearest one of these decimals
-      --geometry <geometry>  Kind of the geometries, box or any [default: box]
-      --rings <rings>        Rings that --geometry any accepts, proper (the default) or even-odd
-  -h, --help                 Print help
+      --relation <relation>    Name of a relation, or mask of nine letters
+      --pairs                  Write the two ids of each pair, without the matrix
+      --first                  Write the first pair of each left feature alone
+      --count                  Write the number of pairs of each left feature in place of the pairs
+      --unmatched              Write the left features without a pair in place of the pairs
+      --edits <edits>          CSV file of edits, which are applied before the join
+      --skip <skip>            CSV file for rows whose geometry can't be read, which are left out
+      --workers <workers>      Number of threads, 1 to 16, or auto for one per processor [default: 4]
+      --batch <batch>          Pairs per batch, 1 to 4096 [default: 256]
+      --cut <cut>              Rounds of cutting the trees into tasks, 0 to 8 [default: 2]
+      --scale <scale>          Decimals that a coordinate may have, 0 to 6 [default: 0]
+      --round                  Read each number as the nearest one of these decimals
+      --geometry <geometry>    Kind of the geometries, box or any [default: box]
+      --rings <rings>          Rings that --geometry any accepts, proper (the default) or even-odd
+      --columns <columns>      Names of a layer's columns, ID,GEOMETRY or GEOMETRY
+      --delimiter <delimiter>  Character between a layer's fields, \",\" (the default), \";\" or tab
+  -h, --help                   Print help
 
 A layer is a CSV file such as             Edits are a CSV file such as
   id,wkt                                    op,layer,id,wkt
   mill,\"LINESTRING (10 0, 10 10)\"           insert,left,inn,POINT (4 4)
+
+With --columns ID,GEOMETRY a layer may have any columns, of which these two are read; with
+--columns GEOMETRY the id of a row is its number.
 
 The path - stands for standard input, for at most one of the files.
 
@@ -130,8 +139,13 @@ A mask of nine letters may replace the name, with one for each letter of the mat
 The report is CSV: left,right,matrix, and for each pair the two ids and the nine letters of DE-9IM,
 in three rows of three: interior, boundary and exterior of the left one, each with interior,
 boundary and exterior of the right one. F means that the two share nothing, and 0, 1 or 2 that they
-share points, lines or areas. With --pairs it is left,right and the two ids. Neither --workers nor
---batch nor --cut changes the report.
+share points, lines or areas. With --pairs it is left,right and the two ids. It is in the order of
+the left file, then in that of the right file, and with --first it has the first pair of each left
+feature alone. Neither --workers nor --batch nor --cut changes what is written.
+
+In place of the report, --count writes left,count, and for each left feature its id and the number
+of its pairs, and --unmatched writes left, and the id of each left feature without a pair, both in
+the order of the left file. Edits that insert a feature put it behind those of the file.
 
 A row whose geometry can't be read is a fault of its file. With --skip FILE such rows are left out:
 FILE then lists them as CSV, side,row,id,fault, and a line on standard error counts them. FILE is
@@ -151,22 +165,27 @@ Arguments:
   <RIGHT>  CSV file of the right layer
 
 Options:
-      --distance <distance>  Greatest distance of a pair, read as a coordinate is
-      --apart                Leave out pairs that share a point
-      --edits <edits>        CSV file of edits, which are applied before the join
-      --skip <skip>          CSV file for rows whose geometry can't be read, which are left out
-      --workers <workers>    Number of threads, 1 to 16, or auto for one per processor [default: 4]
-      --batch <batch>        Pairs per batch, 1 to 4096 [default: 256]
-      --cut <cut>            Rounds of cutting the trees into tasks, 0 to 8 [default: 2]
-      --scale <scale>        Decimals that a coordinate may have, 0 to 6 [default: 0]
-      --round                Read each number as the nearest one of these decimals
-      --geometry <geometry>  Kind of the geometries, box or any [default: box]
-      --rings <rings>        Rings that --geometry any accepts, proper (the default) or even-odd
-  -h, --help                 Print help
+      --distance <distance>    Greatest distance of a pair, read as a coordinate is
+      --apart                  Leave out pairs that share a point
+      --edits <edits>          CSV file of edits, which are applied before the join
+      --skip <skip>            CSV file for rows whose geometry can't be read, which are left out
+      --workers <workers>      Number of threads, 1 to 16, or auto for one per processor [default: 4]
+      --batch <batch>          Pairs per batch, 1 to 4096 [default: 256]
+      --cut <cut>              Rounds of cutting the trees into tasks, 0 to 8 [default: 2]
+      --scale <scale>          Decimals that a coordinate may have, 0 to 6 [default: 0]
+      --round                  Read each number as the nearest one of these decimals
+      --geometry <geometry>    Kind of the geometries, box or any [default: box]
+      --rings <rings>          Rings that --geometry any accepts, proper (the default) or even-odd
+      --columns <columns>      Names of a layer's columns, ID,GEOMETRY or GEOMETRY
+      --delimiter <delimiter>  Character between a layer's fields, \",\" (the default), \";\" or tab
+  -h, --help                   Print help
 
 A layer is a CSV file such as             Edits are a CSV file such as
   id,wkt                                    op,layer,id,wkt
   mill,\"LINESTRING (10 0, 10 10)\"           insert,left,inn,POINT (4 4)
+
+With --columns ID,GEOMETRY a layer may have any columns, of which these two are read; with
+--columns GEOMETRY the id of a row is its number.
 
 The path - stands for standard input, for at most one of the files.
 
@@ -211,22 +230,27 @@ Arguments:
   <RIGHT>  CSV file of the right layer
 
 Options:
-      --most <most>          Number of nearest features sought for each left one [default: 1]
-      --distance <distance>  Greatest distance of a pair, read as a coordinate is
-      --edits <edits>        CSV file of edits, which are applied before the join
-      --skip <skip>          CSV file for rows whose geometry can't be read, which are left out
-      --workers <workers>    Number of threads, 1 to 16, or auto for one per processor [default: 4]
-      --batch <batch>        Pairs per batch, 1 to 4096 [default: 256]
-      --cut <cut>            Rounds of cutting the trees into tasks, 0 to 8 [default: 2]
-      --scale <scale>        Decimals that a coordinate may have, 0 to 6 [default: 0]
-      --round                Read each number as the nearest one of these decimals
-      --geometry <geometry>  Kind of the geometries, box or any [default: box]
-      --rings <rings>        Rings that --geometry any accepts, proper (the default) or even-odd
-  -h, --help                 Print help
+      --most <most>            Number of nearest features sought for each left one [default: 1]
+      --distance <distance>    Greatest distance of a pair, read as a coordinate is
+      --edits <edits>          CSV file of edits, which are applied before the join
+      --skip <skip>            CSV file for rows whose geometry can't be read, which are left out
+      --workers <workers>      Number of threads, 1 to 16, or auto for one per processor [default: 4]
+      --batch <batch>          Pairs per batch, 1 to 4096 [default: 256]
+      --cut <cut>              Rounds of cutting the trees into tasks, 0 to 8 [default: 2]
+      --scale <scale>          Decimals that a coordinate may have, 0 to 6 [default: 0]
+      --round                  Read each number as the nearest one of these decimals
+      --geometry <geometry>    Kind of the geometries, box or any [default: box]
+      --rings <rings>          Rings that --geometry any accepts, proper (the default) or even-odd
+      --columns <columns>      Names of a layer's columns, ID,GEOMETRY or GEOMETRY
+      --delimiter <delimiter>  Character between a layer's fields, \",\" (the default), \";\" or tab
+  -h, --help                   Print help
 
 A layer is a CSV file such as             Edits are a CSV file such as
   id,wkt                                    op,layer,id,wkt
   mill,\"LINESTRING (10 0, 10 10)\"           insert,left,inn,POINT (4 4)
+
+With --columns ID,GEOMETRY a layer may have any columns, of which these two are read; with
+--columns GEOMETRY the id of a row is its number.
 
 The path - stands for standard input, for at most one of the files.
 
@@ -275,17 +299,19 @@ Arguments:
   <RIGHT>  CSV file of the right layer
 
 Options:
-      --relation <relation>  Name of a relation, or mask of nine letters
-      --edits <edits>        CSV file of edits, which are applied before the join
-      --skip <skip>          CSV file for rows whose geometry can't be read, which are left out
-      --workers <workers>    Number of threads, 1 to 16, or auto for one per processor [default: 4]
-      --batch <batch>        Pairs per batch, 1 to 4096 [default: 256]
-      --cut <cut>            Rounds of cutting the trees into tasks, 0 to 8 [default: 2]
-      --scale <scale>        Decimals that a coordinate may have, 0 to 6 [default: 0]
-      --round                Read each number as the nearest one of these decimals
-      --geometry <geometry>  Kind of the geometries, box or any [default: box]
-      --rings <rings>        Rings that --geometry any accepts, proper (the default) or even-odd
-  -h, --help                 Print help
+      --relation <relation>    Name of a relation, or mask of nine letters
+      --edits <edits>          CSV file of edits, which are applied before the join
+      --skip <skip>            CSV file for rows whose geometry can't be read, which are left out
+      --workers <workers>      Number of threads, 1 to 16, or auto for one per processor [default: 4]
+      --batch <batch>          Pairs per batch, 1 to 4096 [default: 256]
+      --cut <cut>              Rounds of cutting the trees into tasks, 0 to 8 [default: 2]
+      --scale <scale>          Decimals that a coordinate may have, 0 to 6 [default: 0]
+      --round                  Read each number as the nearest one of these decimals
+      --geometry <geometry>    Kind of the geometries, box or any [default: box]
+      --rings <rings>          Rings that --geometry any accepts, proper (the default) or even-odd
+      --columns <columns>      Names of a layer's columns, ID,GEOMETRY or GEOMETRY
+      --delimiter <delimiter>  Character between a layer's fields, \",\" (the default), \";\" or tab
+  -h, --help                   Print help
 
 The layers are read, edited and joined as by rjoin join; its --help describes files, geometries,
 relations and --skip.
@@ -312,15 +338,19 @@ Arguments:
   <WKT>    Geometry of the window, as well-known text
 
 Options:
-      --scale <scale>        Decimals that a coordinate may have, 0 to 6 [default: 0]
-      --round                Read each number as the nearest one of these decimals
-      --geometry <geometry>  Kind of the geometries, box or any [default: box]
-      --rings <rings>        Rings that --geometry any accepts, proper (the default) or even-odd
-  -h, --help                 Print help
+      --scale <scale>          Decimals that a coordinate may have, 0 to 6 [default: 0]
+      --round                  Read each number as the nearest one of these decimals
+      --geometry <geometry>    Kind of the geometries, box or any [default: box]
+      --rings <rings>          Rings that --geometry any accepts, proper (the default) or even-odd
+      --columns <columns>      Names of a layer's columns, ID,GEOMETRY or GEOMETRY
+      --delimiter <delimiter>  Character between a layer's fields, \",\" (the default), \";\" or tab
+  -h, --help                   Print help
 
 A layer is a CSV file such as
   id,wkt
   mill lane,\"LINESTRING (10 0, 10 10)\"
+With --columns ID,GEOMETRY a layer may have any columns, of which these two are read; with
+--columns GEOMETRY the id of a row is its number.
 The path - stands for standard input.
 
 Geometries are points, segments along an axis and rectangles. With --geometry any the features and
@@ -343,15 +373,19 @@ Arguments:
   <LAYER>  CSV file of the layer
 
 Options:
-      --scale <scale>        Decimals that a coordinate may have, 0 to 6 [default: 0]
-      --round                Read each number as the nearest one of these decimals
-      --geometry <geometry>  Kind of the geometries, box or any [default: box]
-      --rings <rings>        Rings that --geometry any accepts, proper (the default) or even-odd
-  -h, --help                 Print help
+      --scale <scale>          Decimals that a coordinate may have, 0 to 6 [default: 0]
+      --round                  Read each number as the nearest one of these decimals
+      --geometry <geometry>    Kind of the geometries, box or any [default: box]
+      --rings <rings>          Rings that --geometry any accepts, proper (the default) or even-odd
+      --columns <columns>      Names of a layer's columns, ID,GEOMETRY or GEOMETRY
+      --delimiter <delimiter>  Character between a layer's fields, \",\" (the default), \";\" or tab
+  -h, --help                   Print help
 
 A layer is a CSV file such as
   id,wkt
   mill lane,\"LINESTRING (10 0, 10 10)\"
+With --columns ID,GEOMETRY a layer may have any columns, of which these two are read; with
+--columns GEOMETRY the id of a row is its number.
 The path - stands for standard input.
 
 Geometries are points, segments along an axis and rectangles. With --geometry any they are points,
@@ -374,15 +408,19 @@ Arguments:
   <LAYER>  CSV file of the layer
 
 Options:
-      --scale <scale>        Decimals that a coordinate may have, 0 to 6 [default: 0]
-      --round                Read each number as the nearest one of these decimals
-      --geometry <geometry>  Kind of the geometries, box or any [default: box]
-      --rings <rings>        Rings that --geometry any accepts, proper (the default) or even-odd
-  -h, --help                 Print help
+      --scale <scale>          Decimals that a coordinate may have, 0 to 6 [default: 0]
+      --round                  Read each number as the nearest one of these decimals
+      --geometry <geometry>    Kind of the geometries, box or any [default: box]
+      --rings <rings>          Rings that --geometry any accepts, proper (the default) or even-odd
+      --columns <columns>      Names of a layer's columns, ID,GEOMETRY or GEOMETRY
+      --delimiter <delimiter>  Character between a layer's fields, \",\" (the default), \";\" or tab
+  -h, --help                   Print help
 
 A layer is a CSV file such as
   id,wkt
   mill lane,\"LINESTRING (10 0, 10 10)\"
+With --columns ID,GEOMETRY a layer may have any columns, of which these two are read; with
+--columns GEOMETRY the id of a row is its number.
 The path - stands for standard input.
 
 Geometries are points, segments along an axis and rectangles. With --geometry any they are points,

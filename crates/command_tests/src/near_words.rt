@@ -2,6 +2,7 @@
 
 use crate::read_words::{asks, is_refused};
 use distance_core::{Distance, Nearness};
+use format_core::Layout;
 use number_core::{Rounding, Scale};
 use pair_core::Options;
 use plane_core::Rings;
@@ -57,6 +58,7 @@ fn near(scale: Scale, units: u64) -> Result<NearRequest<'static>, Fail> {
             right: "q.csv",
             edits: None,
             skip: None,
+            layout: Layout::plain(),
         },
         distance: Distance::new(units).ok_or("a distance")?,
         nearness: Nearness::Within,
@@ -107,6 +109,7 @@ fn every_word(rt: HostRuntime) -> Result<(), Fail> {
             right: "q.csv",
             edits: Some("e.csv"),
             skip: None,
+            layout: Layout::plain(),
         },
         nearness: Nearness::Apart,
         options: Options::new(1, 1, 8)?,

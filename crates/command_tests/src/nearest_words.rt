@@ -2,6 +2,7 @@
 
 use crate::read_words::{asks, is_refused};
 use distance_core::{Distance, Query};
+use format_core::Layout;
 use number_core::{Rounding, Scale};
 use pair_core::Options;
 use plane_core::Rings;
@@ -46,6 +47,7 @@ fn nearest(scale: Scale, most: u32, units: Option<u64>) -> Result<NearestRequest
             right: "q.csv",
             edits: None,
             skip: None,
+            layout: Layout::plain(),
         },
         query: Query::new(most, within).ok_or("a query")?,
         options: Options::new(4, 256, 2)?,
@@ -94,6 +96,7 @@ fn every_word_of_a_search(rt: HostRuntime) -> Result<(), Fail> {
             right: "q.csv",
             edits: Some("e.csv"),
             skip: Some("s.csv"),
+            layout: Layout::plain(),
         },
         options: Options::new(1, 1, 8)?,
         ..nearest(scale, 3, Some(213))?

@@ -1,5 +1,6 @@
 //! The words of the commands, and their faults.
 
+use format_core::Layout;
 use number_core::Scale;
 use pair_core::{Options, Product};
 use plane_core::Rings;
@@ -223,6 +224,7 @@ fn layer_words(rt: HostRuntime) -> Result<(), Fail> {
     };
     let layer = |path| LayerRequest {
         path,
+        layout: Layout::plain(),
         scale,
         geometries: Geometries::Box,
     };
@@ -316,6 +318,7 @@ fn joins(rt: HostRuntime) -> Result<(), Fail> {
                 right: "q.csv",
                 edits,
                 skip: None,
+                layout: Layout::plain(),
             },
             condition,
             options,

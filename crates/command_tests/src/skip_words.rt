@@ -2,6 +2,7 @@
 
 use crate::read_words::{asks, is_refused};
 use distance_core::{Distance, Nearness};
+use format_core::Layout;
 use number_core::Scale;
 use pair_core::{Options, Product};
 use plane_core::Rings;
@@ -16,6 +17,7 @@ fn paths(edits: Option<&'static str>, skip: &'static str) -> LayerPaths<'static>
         right: "q.csv",
         edits,
         skip: Some(skip),
+        layout: Layout::plain(),
     }
 }
 

@@ -27,8 +27,11 @@ pub enum Decision {
 
 /// What a lower and an upper bound of a matrix tell of some masks, of which one must fit it.
 pub fn decided(masks: &[Mask], least: &Matrix, greatest: &Matrix) -> Decision
+    // Holds only where one of the masks fits each matrix between the bounds
     ensures holds { result ≡ Decision.Holds → FitsEach masks.now least.now greatest.now }
+    // Fails only where none fits any
     ensures fails { result ≡ Decision.Fails → FitsNone masks.now least.now greatest.now }
+    // Open only where the bounds don't tell, for the masks of a relation, or for any
     ensures all_fit { (relation : Relation) (c d : ℕ) → masks.now ≡ masks_of relation c d
         → IsBelow least.now greatest.now
         → FitsEach masks.now least.now greatest.now → result ≡ Decision.Holds }

@@ -1,17 +1,30 @@
 -- The effect of a draw on a seat that counts its draws.
-use Rattle.std.proofs.Common.{◌≡◌, ℕ, ◌+◌, ◌<◌, ◌≤◌, Bool, true, false, List, [], ◌∷◌, ◌++◌, length, All, refl, sym, ap, ◌∙◌, subst, arith, length-append}
+use Rattle.std.proofs.Common.{◌≡◌, ℕ, ◌+◌, ◌-◌, ◌<◌, ◌≤◌, Bool, true, false, List, [], ◌∷◌, ◌++◌, length, replicate, All, refl, sym, ap, ◌∙◌, subst, arith, length-append}
 use Rattle.std.proofs.Common.{Option, Some}
 use Rattle.std.proofs.lemmas.Bool.{MatchBool-at_true, MatchBool-at_false, lt-ltb, le-ltb}
+use Rattle.std.proofs.lemmas.List.{replicate_more}
 use mathlib.Core.Option.{none}
+use Rattle.atomic_table.specs.Seated.{TableId}
 use Rattle.atomic_table.specs.Table.{step}
 use Rattle.atomic_table.specs.declared.shared.Seat.{Seat}
 use Rattle.deliver_core.specs.declared.board.rule.SeatView.{SeatView}
 use Rattle.deliver_core.specs.Draws.{SeatState, seat_after}
 use Rattle.deliver_core.specs.BoardRule.{seat_view, Drew}
-use Rattle.deliver_core.specs.Boards.{BoardValue, SeatValue, board_of, seat_value, state_of, IsCounted, IsCountedSeat, IsDrawOf}
+use Rattle.deliver_core.specs.Boards.{BoardValue, SeatValue, board_of, fresh_seat, seat_value, state_of, IsCounted, IsCountedSeat, IsDrawOf}
 
 abbrev Place : Type 0
 Place = Seat (Unit {0}) SeatView
+
+-- a seat that was just made, and a list of such seats with one more
+pub fresh_is : (place : Place) (id : TableId) (tasks seats : ℕ) → place.table_id ≡ id → place.me.0.tasks ≡ tasks → place.me.0.seats ≡ seats
+    → fresh_seat (board_of place) ≡ fresh_seat (record { id = id; tasks = tasks; seats = seats })
+fresh_is place id tasks seats of_table few many = rw (of_table, few, many) refl
+
+pub fresh_more : {X : Type 0} (old new : List X) (n : ℕ) (x y : X) → 1 ≤ n → old ≡ replicate (n - 1) y → new ≡ old ++ x ∷ [] → x ≡ y
+    → new ≡ replicate (n + 1 - 1) y
+fresh_more old new n x y some are grown is =
+    let next : n - 1 + 1 ≡ n + 1 - 1 = omega arith in
+    grown ∙ ap (λ l. l ++ x ∷ []) are ∙ ap (λ z. replicate (n - 1) y ++ z ∷ []) is ∙ replicate_more (n - 1) y ∙ ap (λ k. replicate k y) next
 
 -- the hand after a draw of a number, and after one of none
 pub seat_number : (tasks word : ℕ) (h : SeatState) → word < tasks → seat_after tasks word h ≡ record { drawn = h.drawn ++ word ∷ []; done = h.done }

@@ -1,18 +1,18 @@
 -- Each step on the board's word preserves its rule, and the consequences of the last state.
-use Rattle.std.proofs.Common.{◌≡◌, ◌≢◌, ℕ, suc, ◌+◌, ◌-◌, ◌%◌, ◌^◌, ◌<◌, ◌≤◌, min, Bool, true, false, nat_lt, List, [], ◌∷◌, ◌++◌, length, get_or, set}
+use Rattle.std.proofs.Common.{◌≡◌, ◌≢◌, ℕ, zero, suc, ◌+◌, ◌-◌, ◌%◌, ◌^◌, ◌<◌, ◌≤◌, min, Bool, true, false, nat_lt, List, [], ◌∷◌, ◌++◌, length, get_or, set}
 use Rattle.std.proofs.Common.{slice_index, sum_by, All, MatchBool, refl, sym, ap, ◌∙◌, subst, ⊎_elim, arith, length-append, length-set, get_or-set_same}
 use Rattle.std.specs.List.Sorted.{IsStrictlyIncreasing}
 use Rattle.std.proofs.lemmas.Bool.Decides.{nat_tests}
 use Rattle.std.proofs.lemmas.Bool.{cases_lt}
 use Rattle.std.proofs.lemmas.List.{get_or_append_left, get_or_push}
 use Rattle.std.proofs.lemmas.List.Sums.{sum_by-cons, sum_by_push}
-use mathlib.Core.Option.{none, some}
+use mathlib.Core.Option.{none, some, some-injective, some-ne-none}
 use lib.ListN.{get_elem?}
-use Rattle.atomic_table.specs.Table.{State, Me, Act, step, keeps, Valid, stepped, carried_after, Allows, Splits, Joins}
+use Rattle.atomic_table.specs.Table.{State, Me, Act, opening, step, keeps, Valid, stepped, carried_after, Allows, Splits, Joins}
 use Rattle.atomic_table.proofs.Lists.{at_set, at_snoc, set_else}
 use Rattle.deliver_core.specs.declared.board.rule.SeatView.{SeatView}
 use Rattle.deliver_core.specs.declared.board.rule.Size.{Size}
-use Rattle.deliver_core.specs.Draws.{times, AreNumbersBelow}
+use Rattle.deliver_core.specs.Draws.{times, AreNumbersBelow, Tally}
 use Rattle.deliver_core.specs.BoardRule.{seat_view, FitsBoard, ObeysRule, TableObeysRule, Drew}
 use Rattle.deliver_core.proofs.BoardTallies.{sum_at, part_le, tally_draws, tally_ends, tally_same, tally_below, tally_length, times-append}
 
@@ -141,6 +141,29 @@ draws size slots i me one zero_over tasks seats s holds _ at _ = go (nat_lt word
         let past : v.tasks ≤ word = grind (arith, nat_tests) in
         let m = moved w (end_met size word s.views holds.1 i v at one past zero_over) in
         (w, keeps, tt, m.0, (m.1, refl, refl))
+
+-- at the start one view stands for all seats, which have drawn nothing
+pub opens : (size : Size) → TableObeysRule size (opening (0 ∷ []) [] (seat_view size.tasks size.seats size.seats [] 0))
+opens size = (refl, record { parts = omega (arith, sum_by-cons (λ (u : SeatView). u.parts) first []); tally = tally; each = each })
+  where
+    first : SeatView
+    first = seat_view size.tasks size.seats size.seats [] 0
+
+    least : min 0 size.tasks ≡ 0
+    least = omega arith
+
+    tally : Tally (λ (u : SeatView). u.drawn) (λ (u : SeatView). u.over) size.tasks 0 (first ∷ [])
+    tally = record {
+      numbers = λ x. rw least (grind (arith, nat_tests, sum_by-cons (λ (u : SeatView). times x u.drawn) first []));
+      lengths = omega (arith, sum_by-cons (λ (u : SeatView). length u.drawn) first []);
+      word_is = omega (arith, sum_by-cons (λ (u : SeatView). u.over) first []);
+    }
+
+    each : (j : ℕ) (u : SeatView) → get_elem? (first ∷ []) j ≡ some u → FitsBoard size u
+    each zero u at =
+        subst (FitsBoard size) (some-injective first u at)
+        (record { live = λ _. (refl, refl); over = omega arith; idle = λ _. refl; rises = λ _ k h. absurd (omega arith) })
+    each (suc j) u at = absurd (some-ne-none u (sym at))
 
 -- one seat of several that have drawn nothing goes to a view of its own
 pub splits : (size : Size) (i : ℕ) (v : SeatView) → 1 < v.parts → v.drawn ≡ [] → v.over ≡ 0

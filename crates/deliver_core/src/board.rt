@@ -47,7 +47,9 @@ impl Board {
     /// [`pair_core::MAX_WORKERS`] seats.
     pub fn new(alloc: Global, tasks: u32, seats: u32) -> Result<(Board, Vec<BoardSeat>), AllocError>
         requires { (1 ≤ seats) × (seats ≤ most_workers) }
+        // has the given numbers of tasks and seats
         ensures board { IfOk result (λ r. (r.0.tasks ≡ tasks) × (r.0.seats ≡ seats)) }
+        // are that number of fresh seats
         ensures seats { IfOk result (λ r. r.1.items ≡ replicate seats (fresh_seat r.0)) }
     {
         let mut given = Vec::with_capacity(alloc, seats as usize)?;
@@ -67,18 +69,23 @@ impl Board {
     #[tactic(auto, using(crate::proofs::BoardMoves::word_bound))]
     pub fn claim(&self, seat: &mut BoardSeat) -> Option<u32>
         requires { IsSeatOf self.now seat.old }
+        // it stays a seat of this board
         ensures seat { IsSeatOf self.now seat.new }
 
         // The number is that of a task, greater than all that the seat has drawn, and is added to
         // them.
+        // over every schedule, a number above all that the seat drew
         ensures number { IfSome result (IsAfterNumber self.now seat.old seat.new) }
+        // the seat has met the end
         ensures none { IfNone result (IsAfterEnd seat.old seat.new) }
 
         // A seat that isn't done makes a draw at the board's table, whatever the word was. A seat
         // that is done makes no step.
+        // one draw, of which the board's table knows
         ensures draw { seat.old.done ≡ false → IsDraw self.now seat.old seat.new }
 
         // For every word and all knowledge of the seats that satisfy the board's rule.
+        // the word never overflows
         ensures word_bound { (word : ℕ) (views : List SeatView)
             → ObeysRule (size_of self.now) word views → word ≤ self.now.tasks + self.now.seats }
     {
@@ -105,10 +112,14 @@ impl Board {
 
         // Each number that was drawn is that of a task, and one seat drew it, once. If a seat has
         // met the end, the numbers of all tasks were drawn.
+        // all seats' numbers are together those below some n, each once, and all tasks' where any
+        // seat is done
         ensures numbers { (n : ℕ) × (n ≤ self.tasks)
             × AreNumbersBelow n (flat_map (λ s. s.drawn) seats.items)
             × (Any (λ s. s.done ≡ true) seats.items → n ≡ self.tasks) }
+        // each count is right
         ensures counted { All (λ s. s.count ≡ length s.drawn) seats.items }
+        // the seats come back spent
         ensures spent { result.items ≡ map spent_seat seats.items }
     {
         let Board { table, tasks: _ } = self;

@@ -13,6 +13,7 @@ ghost use Rattle.deliver_core.specs.Draws.{AreNumbersBelow, after_draws};
 /// seat is done, the word is greater than the number of tasks; and it never exceeds the sum of the
 /// numbers of tasks and seats.
 pub fn draws_law()
+    // of every list of draws, what `Board` promises
     ensures numbers { (tasks seats : ℕ) (events : List ℕ)
         → let b = after_draws tasks seats events in
         AreNumbersBelow (min b.word tasks) (flat_map (λ s. s.drawn) b.seats) }

@@ -69,7 +69,9 @@ impl Collector {
 
     /// The marks of the accepted messages, in the order of acceptance.
     pub fn taken(&self) -> &[Mark]
+        // those that were accepted, in order
         ensures marks { result.now ≡ self.now.marks }
+        // what was accepted is a legal history at every moment
         ensures history { IsLegalHistory self.now.tasks result.now }
     {
         self.marks.as_slice()
@@ -78,15 +80,20 @@ impl Collector {
     /// Accepts a message, or refuses and drops it. A refusal changes nothing. `Memory` is returned
     /// only for a message that would be accepted otherwise.
     pub fn offer(&mut self, message: Message) -> Result<(), Refusal>
+        // the message's mark and pairs are added at the end
         ensures ok { OnOk result (self.new ≡ accept self.old (content_of message)) }
+        // a refusal changes nothing
         ensures err { OnErr result (self.new ≡ self.old) }
 
         // Which messages are refused, and why. Any other is refused only for lack of memory, and a
         // bye never is.
+        // each comes exactly in its order
         ensures refused { IfSome (refusal_of self.old (content_of message))
             (λ refusal. result ≡ Err refusal) }
+        // no other but for memory
         ensures accepted { IfNone (refusal_of self.old (content_of message))
             (IsOkUnless result Refusal.Memory) }
+        // a bye is never refused
         ensures bye { IsBye (content_of message) → IsOk result }
     {
         let Message {
@@ -104,13 +111,17 @@ impl Collector {
     /// Returns all pairs in ascending order, or the least task that has no end. It allocates no
     /// memory.
     pub fn finish(self) -> Result<Outcome, Finish>
+        // Ok exactly where every task has ended
         ensures closed { IsOk result ↔ IsClosed self.tasks self.marks }
+        // otherwise it names the first that hasn't
         ensures least_open { IfErr result (IsLeastOpen self) }
 
         // The pairs are the accepted ones, with multiplicity, in ascending order.
+        // the accepted pairs with multiplicity, ascending
         ensures as_often { IfOk result (λ outcome. IsPermutation self.pairs outcome.pairs) }
         ensures ascending { IfOk result (λ outcome. IsSorted pair_cmp outcome.pairs) }
 
+        // the marks
         ensures marks { IfOk result (λ outcome. outcome.marks ≡ self.marks) }
         ensures history { IfOk result (λ outcome. IsLegalHistory self.tasks outcome.marks) }
     {
@@ -121,6 +132,7 @@ impl Collector {
 
     /// Does the same as `finish`. Threads share the sort, up to two for each processor.
     pub fn finish_by_threads<R: Threads + Sync>(self, rt: &R) -> Result<Outcome, Finish>
+        // as of `Collector::finish`
         ensures closed { IsOk result ↔ IsClosed self.tasks self.marks }
         ensures least_open { IfErr result (IsLeastOpen self) }
 
@@ -249,7 +261,6 @@ impl Model for Outcome {
 
 impl Outcome {
     /// Sorts the pairs in ascending order.
-    #[tactic(auto, using(pair_core::proofs::SortLemmas::written_sorted))]
     fn sort(&mut self)
         ensures as_often { IsPermutation self.old.pairs self.new.pairs }
         ensures ascending { IsSorted pair_cmp self.new.pairs }
@@ -259,7 +270,6 @@ impl Outcome {
     }
 
     /// Sorts the pairs in ascending order. Threads share the work, up to two for each processor.
-    #[tactic(auto, using(pair_core::proofs::SortLemmas::written_sorted))]
     fn sort_by_threads<R: Threads + Sync>(&mut self, rt: &R)
         ensures as_often { IsPermutation self.old.pairs self.new.pairs }
         ensures ascending { IsSorted pair_cmp self.new.pairs }

@@ -44,13 +44,14 @@ impl Outlet {
 
     /// An outlet of [`MAX_WAITING`] messages, its `ports` ports in the order of their indexes, and
     /// its tap. It fails only if memory runs out.
-    #[tactic(auto, using(crate::proofs::OutletRule::begins))]
     pub fn new(alloc: Global, ports: u32) -> Result<(Outlet, Vec<Port>, Tap), AllocError>
         requires ports { (1 ≤ ports) × (ports ≤ most_workers) }
+        // as many fresh ports as asked for, and the tap
         ensures count { IfOk result (λ r. (vec_len r.1 ≡ ports) × (ports ≤ most_workers)) }
         ensures indexes { IfOk result (λ r. map index_of r.1.items ≡ range_with_len 0 ports) }
         ensures fresh { IfOk result (λ r. All (IsFreshPort r.0) r.1.items) }
         ensures tap { IfOk result (λ r. IsFreshTap r.0 ports r.2) }
+        // 64 messages may wait
         ensures room { IfOk result (λ r. room_of r.0 ≡ most_waiting) }
     {
         let mut all = Vec::with_capacity(alloc, ports as usize)?;
@@ -68,8 +69,10 @@ impl Outlet {
     pub fn put<R: Wait>(&self, rt: &R, port: &mut Port, message: Message)
         requires port { IsOpenPort self.now port.old }
         requires message { IsForPort port.old message }
+        // the port stays the outlet's
         ensures port { IsOpenPort self.now port.new }
         ensures index { index_of port.new ≡ index_of port.old }
+        // over every schedule, exactly this message is appended to what the port sent
         ensures sent { sent_by port.new ≡ sent_by port.old ++ message ∷ [] }
     {
         let Some(pass) = &mut port.pass else {
@@ -81,8 +84,11 @@ impl Outlet {
     /// Ends the port's messages with its Bye. It waits while the outlet is full.
     pub fn bye<R: Wait>(&self, rt: &R, port: &mut Port, ok: bool)
         requires port { IsOpenPort self.now port.old }
+        // as of `Outlet::put`
         ensures port { IsEndedPort self.now port.new }
+        // the port may still be met
         ensures unmet { is_spent port.new ≡ false }
+        // as of `Outlet::put`
         ensures index { index_of port.new ≡ index_of port.old }
         ensures sent { sent_by port.new ≡ sent_by port.old ++ bye_of (index_of port.old) ok ∷ [] }
     {
@@ -102,13 +108,17 @@ impl Outlet {
     /// call.
     pub fn take<R: Wait>(&self, rt: &R, tap: &mut Tap) -> Option<Message>
         requires { IsTapOf self.now tap.old }
+        // the tap stays the outlet's
         ensures tap { IsTapOf self.now tap.new }
         ensures ports { (port_count tap.new ≡ port_count tap.old)
             × (met_by tap.new ≡ met_by tap.old) }
+        // the answer is appended to what was taken
         ensures some { IfSome result (IsAfterTaking tap.old tap.new) }
+        // None only where all that the ports met had sent was taken
         ensures none { IfNone result (IsAfterNothing tap.old tap.new) }
 
         // The messages taken of each port that was met are a prefix of those sent.
+        // of each port met, what was taken is a prefix of what it sent
         ensures begins { All (λ p. IsPrefix (of_port p.index (taken_by tap.new)) p.sent)
             (met_by tap.new) }
     {
@@ -121,9 +131,14 @@ impl Outlet {
     pub fn meet<R: Wait>(&self, _rt: &R, tap: &mut Tap, mut port: Port) -> Port
         requires tap { IsTapOf self.now tap.old }
         requires port { IsEndedPort self.now port }
+        // nothing else is taken
         ensures tap { IsSameTap self.now tap.old tap.new }
+        // the port comes back spent
         ensures port { IsSpentPort self.now port result }
+        // what was taken of the port is a prefix of what it sent, and all of it once its bye was
+        // taken
         ensures met { is_spent port ≡ false → IsAfterMeeting port tap.old tap.new }
+        // to meet a spent port changes nothing
         ensures again { is_spent port ≡ true → (result ≡ port) × (tap.new ≡ tap.old) }
     {
         if let Some(pass) = port.pass.take() {
@@ -152,7 +167,6 @@ impl Outlet {
     }
 
     /// Pops a message, if there is one.
-    #[tactic(auto, using(crate::proofs::OutletCalls::begins_after))]
     fn receive<R: Wait>(&self, rt: &R, pass: &mut Pass<Message, PassView>) -> Option<Message>
         requires queue { IsPassOf self.now.queue pass.old }
         requires receiver { is_receiver (view pass.old) ≡ true }

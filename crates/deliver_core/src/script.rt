@@ -9,9 +9,12 @@ ghost use Rattle.deliver_core.specs.Scripts.{script, batches_for, piece_of, mark
 /// each except the last, which has at least one, and its marks are those of such a script.
 pub fn script_law(task: u32, size: u32, row: &[(u32, u32)])
     requires { 0 < size }
+    // a task's messages have its row's pairs
     ensures pairs { flat_map pairs_in (script task size row.now) ≡ row.now }
+    // leave the marks of a script
     ensures marks { flat_map marks_in (script task size row.now)
         ≡ script_marks task (batches_for size row.now) }
+    // all batches but the last are full
     ensures full { (number : ℕ) → number + 1 < batches_for size row.now
         → length (piece_of size row.now number) ≡ size }
     ensures last { (number : ℕ) → number + 1 ≡ batches_for size row.now

@@ -53,9 +53,14 @@ impl<'a> Plan<'a> {
         right: &'a RTree,
         cut: u8,
     ) -> Result<Plan<'a>, AllocError>
+        // the pairs of nodes whose bounding boxes meet, at the greatest depth up to the cut such
+        // that no depth up to it has more than 65,536, in the order of their paths
         ensures plan { IfOk result (IsPlan left.now right.now cut) }
+        // each left and right entry that meet are below exactly one of them
         ensures share { let es = entries_in left.now in let fs = entries_in right.now in
             IfOk result (ShareOut es fs) }
+        // for every cut, the rows of all tasks together are the pairs of the two trees in the
+        // relation, each once
         ensures join { let es = entries_in left.now in let fs = entries_in right.now in
             IfOk result (λ plan. (relation : Relation) → ForbidsDisjoint relation
             → RowsJoin relation es fs plan) }
@@ -67,7 +72,9 @@ impl<'a> Plan<'a> {
 
     /// The number of tasks.
     pub fn len(&self) -> u32
+        // the number of tasks
         ensures len { result ≡ length self.now }
+        // at most 65,536
         ensures few { result ≤ most_tasks }
     {
         self.tasks.len() as u32
@@ -83,7 +90,9 @@ impl<'a> Plan<'a> {
     /// The task with this number, a left and a right node. `k` is less than [`Plan::len`].
     pub fn task(&self, k: u32) -> (&Node, &Node)
         requires { k < length self.now }
+        // the task of this number
         ensures task { slice_get self.now k ≡ Some (result.0.now, result.1.now) }
+        // both its nodes are lawful
         ensures lawful { IsTask (result.0.now, result.1.now) }
     {
         self.tasks[k as usize]

@@ -18,7 +18,10 @@ pub type SquaredDistance = u128;
 /// of the one and a point of the other: 0 if they share a point (OGC 06-103r4, 6.1.2.4).
 #[inline(always)]
 pub fn squared_distance(a: &Shape, b: &Shape) -> SquaredDistance
+    // the least squared distance of a point of the one closed shape and a point of the other: two
+    // points reach it, and no two are nearer
     ensures least { IsSquaredDistance result (HasPoint a.now) (HasPoint b.now) }
+    // at most 8,000,000,000,000,000,000,000,000
     ensures bound { result ≤ greatest_square }
 {
     let dx = gap(a.x(), b.x());

@@ -19,7 +19,9 @@ impl Distance {
 
     /// The distance of this number of units, or `None` if it is more than [`MAX_DISTANCE`].
     pub fn new(units: u64) -> Option<Distance>
+        // Some exactly for 0 to 4,000,000,000,000 units
         ensures some { IsSome result ↔ units ≤ greatest_distance }
+        // it has these
         ensures units { IfSome result (λ d. units_of d ≡ units) }
     {
         if units <= MAX_DISTANCE {
@@ -32,7 +34,9 @@ impl Distance {
     /// The distance in units.
     #[inline(always)]
     pub fn units(self) -> u64
+        // how many
         ensures units { result ≡ units_of self }
+        // at most 4,000,000,000,000
         ensures few { result ≤ greatest_distance }
     {
         self.units

@@ -62,7 +62,9 @@ fn vertex_to_foot(v: &Vertex, e: &Edge, length: u128) -> SquaredFraction
 
 /// The lesser of two squares.
 pub fn lesser(first: SquaredFraction, second: SquaredFraction) -> SquaredFraction
+    // one of the two fractions
     ensures one { (result ≡ first) ⊎ (result ≡ second) }
+    // no more than either
     ensures first { IsNoMore result first }
     ensures second { IsNoMore result second }
 {

@@ -29,7 +29,9 @@ impl SquaredFraction {
     /// A whole number as a fraction.
     pub fn whole(square: u128) -> SquaredFraction
         requires { square ≤ greatest_square }
+        // the whole number
         ensures numerator { numerator_of result ≡ square }
+        // 1
         ensures denominator { result.denominator ≡ 1 }
     {
         SquaredFraction {

@@ -12,8 +12,11 @@ ghost use Rattle.distance_core.specs.ShapePoints.{HasPoint, IsPointOf};
 /// in the interior or on the boundary of the geometry that is this shape. So a distance of shapes
 /// is that of the geometries.
 pub fn points_law()
+    // a point is in a closed shape exactly where its cell is
     ensures cells { (s : Shape) (p : Point) (u v : ℤ) → IsInCell p u v
         → HasPoint s p ↔ Covers s u v }
+    // exactly where it is in the interior or on the boundary of a geometry that has the shape's
+    // parts
     ensures figure { (s : Shape) (g : Figure) (p : Point) → HasPartsOf s g → 0 < p.w
         → HasPoint s p ↔ IsPointOf g p }
 {}

@@ -21,7 +21,9 @@ impl Query {
     /// last of them; if `within` is a distance, only for features that are at most so far away.
     /// `None` if `most` is 0.
     pub fn new(most: u32, within: Option<Distance>) -> Option<Query>
+        // Some exactly for 1 neighbour or more
         ensures some { IsSome result ↔ 0 < most }
+        // it has this number and this reach
         ensures most { IfSome result (λ query. most_of query ≡ most) }
         ensures within { IfSome result (λ query. within_of query ≡ within) }
     {
@@ -33,7 +35,9 @@ impl Query {
 
     /// The number of neighbours that are asked for, at least 1.
     pub fn most(&self) -> u32
+        // the number
         ensures most { result ≡ most_of self.now }
+        // at least 1
         ensures some { 0 < result }
     {
         self.most

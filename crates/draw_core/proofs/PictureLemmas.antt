@@ -1,10 +1,11 @@
 -- Texts that grow by pieces, groups of the same features, and sets that grow by a number.
 use Rattle.std.proofs.Common.{◌≡◌, ℕ, ℤ, pos, ◌-ℤ◌, ◌+ℤ◌, ◌<◌, ◌+◌, ◌==◌, ◌||◌, Bool, true, List, [], ◌∷◌, ◌++◌, refl, sym, ap, ◌∙◌, map, take, codes, length, get_or}
 use Rattle.std.proofs.Common.{Result, Ok, Err, is_ok, OnOk, if◌then◌else◌}
-use Rattle.std.proofs.Common.{append_assoc, flat_map, ◌≤◌, ◌*◌, unsigned_abs, to_z, of_z, w64, arith}
+use Rattle.std.proofs.Common.{append_assoc, append-nil, flat_map, ◌≤◌, ◌*◌, unsigned_abs, to_z, of_z, w64, arith}
 use Rattle.std.proofs.lemmas.Grind.{common_steps}
 use Rattle.std.proofs.lemmas.List.{take_all, take_more, flat_map_more}
 use Rattle.std.proofs.lemmas.List.Folds.{list_any_more}
+use Rattle.std.proofs.lemmas.Result.{on_ok_weaker}
 use Rattle.std.proofs.lemmas.Int.{ints, to_z_pos}
 use Rattle.std.specs.List.{list_any}
 use Rattle.std.specs.Ordering.{nat_cmp}
@@ -17,7 +18,7 @@ use Rattle.draw_core.specs.Pictures.{closing, element, group, legend, canvas, op
 use Rattle.draw_core.specs.Views.{View, drawn_height, greatest_margin, margin_of, view_around, view_of}
 
 -- a piece, and the text after it
-pub chain : (s t u a b : List ℕ) → t ≡ s ++ a → u ≡ t ++ b → u ≡ s ++ (a ++ b)
+chain : (s t u a b : List ℕ) → t ≡ s ++ a → u ≡ t ++ b → u ≡ s ++ (a ++ b)
 chain s t u a b first rest = rest ∙ ap (λ l. l ++ b) first ∙ append_assoc s a b
 
 -- the text of one item more
@@ -27,6 +28,18 @@ pub item_added : {A : Type 0} (f : A → List ℕ) (old mid new : List ℕ) (ite
 item_added {A} f old mid new items i item within at so_far grown =
     grown ∙ ap (λ t. t ++ f item) so_far ∙ flat_map_more f old (take i items) item
     ∙ ap (λ (l : List A). old ++ flat_map f l) (ap (λ x. take i items ++ x ∷ []) at ∙ sym (take_more items i item within))
+
+-- the text of the next item, and of those that are left
+pub next_added : {A : Type 0} (f : A → List ℕ) (item : A) (left rest : List A) (t u whole : List ℕ) → left ≡ item ∷ rest → u ≡ t ++ f item
+    → t ++ flat_map f left ≡ whole → u ++ flat_map f rest ≡ whole
+next_added f item left rest t u whole next grown so_far =
+    ap (λ l. l ++ flat_map f rest) grown ∙ append_assoc t (f item) (flat_map f rest) ∙ ap (λ xs. t ++ flat_map f xs) (sym next) ∙ so_far
+
+-- the text of all items, none of which is left
+pub all_added : {A : Type 0} (f : A → List ℕ) (left listed all : List A) (t begun : List ℕ) → left ≡ [] → listed ≡ all
+    → t ++ flat_map f left ≡ begun ++ flat_map f listed → t ≡ begun ++ flat_map f all
+all_added f left listed all t begun none is so_far =
+    sym (append-nil t) ∙ ap (λ xs. t ++ flat_map f xs) (sym none) ∙ so_far ∙ ap (λ xs. begun ++ flat_map f xs) is
 
 -- the features of a list, if two tests agree
 pub elements_same : {G : Type 0} (drawing : Drawing G) (view : View) (f g : ℕ → Bool) → ((n : ℕ) → f n ≡ g n) → (fs : List (Feature G))
@@ -103,10 +116,9 @@ group_is : {G : Type 0} (side : List ℕ) (drawing : Drawing G) (v w : View) (f 
 group_is side drawing v w f g layer t u view same more =
     more ∙ ap (λ l. t ++ l) (group_same side drawing v f g layer same ∙ ap (λ x. group side drawing x g layer) view)
 
--- the effect of a push, if it succeeded
-pub on_push : {T E : Type 0} (r : Result T E) (t u s : List ℕ) → u ≡ (if is_ok r then t ++ s else t) → OnOk r (u ≡ t ++ s)
-on_push (Ok x) t u s e = e
-on_push (Err e) t u s h = tt
+-- the last of two pieces was pushed, which is this one
+pub last_of_two : {T E : Type 0} (r : Result T E) (a b c t0 t1 t2 : List ℕ) → t1 ≡ t0 ++ a → OnOk r (t2 ≡ t1 ++ b) → b ≡ c → OnOk r (t2 ≡ t0 ++ (a ++ c))
+last_of_two r a b c t0 t1 t2 first last is = on_ok_weaker r (λ e. chain t0 t1 t2 a c first (e ∙ ap (λ l. t1 ++ l) is)) last
 
 -- a text to which three pieces were added, and four
 three_pieces : (a b c t0 t1 t2 t3 : List ℕ) → t1 ≡ t0 ++ a → t2 ≡ t1 ++ b → t3 ≡ t2 ++ c → t3 ≡ t0 ++ (a ++ (b ++ c))
@@ -116,6 +128,15 @@ four_pieces : (a b c d t0 t1 t2 t3 t4 : List ℕ) → t1 ≡ t0 ++ a → t2 ≡ 
     → t4 ≡ t0 ++ (a ++ (b ++ (c ++ d)))
 four_pieces a b c d t0 t1 t2 t3 t4 e1 e2 e3 e4 =
     chain t0 t1 t4 a (b ++ (c ++ d)) e1 (three_pieces b c d t1 t2 t3 t4 e2 e3 e4)
+
+five_pieces : (a b c d e t0 t1 t2 t3 t4 t5 : List ℕ) → t1 ≡ t0 ++ a → t2 ≡ t1 ++ b → t3 ≡ t2 ++ c → t4 ≡ t3 ++ d → t5 ≡ t4 ++ e
+    → t5 ≡ t0 ++ (a ++ (b ++ (c ++ (d ++ e))))
+five_pieces a b c d e t0 t1 t2 t3 t4 t5 e1 e2 e3 e4 e5 =
+    chain t0 t1 t5 a (b ++ (c ++ (d ++ e))) e1 (four_pieces b c d e t1 t2 t3 t4 t5 e2 e3 e4 e5)
+
+pub last_of_four : {T E : Type 0} (r : Result T E) (a b c d t0 t1 t2 t3 t4 : List ℕ) → t1 ≡ t0 ++ a → t2 ≡ t1 ++ b → t3 ≡ t2 ++ c → OnOk r (t4 ≡ t3 ++ d)
+    → OnOk r (t4 ≡ t0 ++ (a ++ (b ++ (c ++ d))))
+last_of_four r a b c d t0 t1 t2 t3 t4 e1 e2 e3 last = on_ok_weaker r (λ e. four_pieces a b c d t0 t1 t2 t3 t4 e1 e2 e3 e) last
 
 -- the last of three pieces was pushed, and of four
 pub third_pushed : {T E : Type 0} (r : Result T E) (a b c whole t0 t1 t2 t3 : List ℕ) → t1 ≡ t0 ++ a → t2 ≡ t1 ++ b
@@ -127,6 +148,11 @@ pub fourth_pushed : {T E : Type 0} (r : Result T E) (a b c d whole t0 t1 t2 t3 t
     → t4 ≡ (if is_ok r then t3 ++ d else t3) → whole ≡ a ++ (b ++ (c ++ d)) → OnOk r (t4 ≡ t0 ++ whole)
 fourth_pushed (Ok x) a b c d whole t0 t1 t2 t3 t4 e1 e2 e3 e4 is = four_pieces a b c d t0 t1 t2 t3 t4 e1 e2 e3 e4 ∙ ap (λ w. t0 ++ w) (sym is)
 fourth_pushed (Err e) a b c d whole t0 t1 t2 t3 t4 e1 e2 e3 e4 is = tt
+
+pub fifth_pushed : {T E : Type 0} (r : Result T E) (a b c d e t0 t1 t2 t3 t4 t5 : List ℕ) → t1 ≡ t0 ++ a → t2 ≡ t1 ++ b → t3 ≡ t2 ++ c → t4 ≡ t3 ++ d
+    → t5 ≡ (if is_ok r then t4 ++ e else t4) → OnOk r (t5 ≡ t0 ++ (a ++ (b ++ (c ++ (d ++ e)))))
+fifth_pushed (Ok x) a b c d e t0 t1 t2 t3 t4 t5 e1 e2 e3 e4 e5 = five_pieces a b c d e t0 t1 t2 t3 t4 t5 e1 e2 e3 e4 e5
+fifth_pushed (Err f) a b c d e t0 t1 t2 t3 t4 t5 e1 e2 e3 e4 e5 = tt
 
 -- a text of six pieces
 six_pieces : (a b c d e f t0 t1 t2 t3 t4 t5 t6 : List ℕ) → t0 ≡ [] → t1 ≡ t0 ++ a → t2 ≡ t1 ++ b → t3 ≡ t2 ++ c

@@ -162,6 +162,12 @@ pub fn picture<G: Drawn, M: AsPair>(
     right: &Layer<G>,
     matches: &[M],
 ) -> Result<String, AllocError>
+    // an SVG 1.1 text with each feature of the left layer and then each of the right one exactly
+    // once, in layer order, at its place, with its id as its title, and highlighted exactly where
+    // it occurs in a pair. Its fixed texts and its height are those of the definition. How a viewer
+    // shows it is not proved. It holds for layers of any type of geometry that can be drawn: a box
+    // is drawn as its outline; a geometry of any kind as all its points, polylines or rings, where
+    // a line isn't filled and an area is filled by the even-odd rule
     ensures text { let drawing = drawing_by G.box_of G.start_of G.path_of in
         let pairs = map M.pair_of matches.now in IfOk result (λ text. string_bytes text
         ≡ picture_of drawing left.now.list right.now.list pairs) }

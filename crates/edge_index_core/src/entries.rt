@@ -12,7 +12,9 @@ use std::alloc::{AllocError, Global};
 /// The bounding boxes of edges, numbered by the edges' indexes.
 pub fn entries_of(alloc: Global, edges: &[Edge]) -> Result<Vec<Entry>, AllocError>
     requires { length edges.now < 2 ^ 32 }
+    // the box of each edge, numbered by the edge's place
     ensures entries { IfOk result (λ v. AreEntriesOf edges.now v.items) }
+    // no two have one number
     ensures distinct { IfOk result (λ v. (k : ℕ) → count_by (has_number k) v.items ≤ 1) }
 {
     let mut entries = Vec::with_capacity(alloc, edges.len())?;

@@ -257,6 +257,7 @@ impl IndexedOutline {
 
     /// The part in which a point lies, and the part just above it.
     pub fn standing_at(&self, p: &Place) -> Standing
+        // those of the outline
         ensures part { result.part ≡ outline_part self.now (point_of p.now) }
         ensures above { result.above ≡ outline_above self.now (point_of p.now) }
     {

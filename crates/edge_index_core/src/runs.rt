@@ -16,7 +16,9 @@ const RUN: usize = 8;
 
 /// The first run of some edges, and the edges after it.
 pub fn first_run(edges: &[Edge]) -> (&[Edge], &[Edge])
+    // the first eight edges of a list, or all where it has fewer
     ensures run { result.0.now ≡ take run_len edges.now }
+    // the others
     ensures after { result.1.now ≡ drop run_len edges.now }
 {
     edges.split_at(RUN.min(edges.len()))

@@ -8,7 +8,7 @@ use Rattle.std.specs.declared.alloc.Global.{Global}
 use Rattle.layer_core.specs.declared.edit.Edit.{Edit}
 use Rattle.layer_core.specs.declared.edit.Side.{Side}
 use Rattle.format_core.specs.declared.text_fault.TextFault.{TextFault}
-use Rattle.format_core.specs.Formats.{Reading}
+use Rattle.format_core.specs.Layouts.{Reading, TextReading}
 use Rattle.row_core.specs.declared.read_fault.ReadFault.{ReadFault}
 use Rattle.row_core.specs.declared.read_fault.ReadFault.TheVariants.{Row}
 use Rattle.layer_core.specs.Edits.{EditContent, content_of}
@@ -25,7 +25,7 @@ abbrev pub insertion : {G : Type 0} → ℕ → Side → List ℕ → Result G T
 insertion n side id (Ok shape) = Ok (record { side = side; id = id; shape = Some shape })
 insertion n side id (Err fault) = Err (fault_of_text n fault)
 
-abbrev pub InsertionGives : {G : Type 0} → Reading G → ℕ → Side → List ℕ → List ℕ
+abbrev pub InsertionGives : {G : Type 0} → TextReading G → ℕ → Side → List ℕ → List ℕ
     → Result (EditContent G) ReadFault → Type 0
 InsertionGives {G} reads n side id wkt answer =
     AfterId n id answer
@@ -36,7 +36,7 @@ abbrev pub DeletionGives : {G : Type 0} → ℕ → Side → List ℕ → Result
 DeletionGives n side id answer =
     AfterId n id answer (answer ≡ Ok (record { side = side; id = id; shape = None }))
 
-abbrev pub EditRowGives : {G : Type 0} → Reading G → ℕ → Record → Result (EditContent G) ReadFault
+abbrev pub EditRowGives : {G : Type 0} → TextReading G → ℕ → Record → Result (EditContent G) ReadFault
     → Type 0
 EditRowGives reads n (op ∷ layer ∷ id ∷ wkt ∷ []) answer =
     MatchOption (side_named layer) (answer ≡ Err (Row n)) (λ side.
@@ -50,7 +50,7 @@ abbrev pub with_edit : {G : Type 0} → List (EditContent G) → Result (EditCon
 with_edit edits (Ok edit) = Ok (edits ++ edit ∷ [])
 with_edit edits (Err fault) = Err fault
 
-abbrev pub EditsRowGives : {G : Type 0} → Reading G → ℕ → List (EditContent G) → Record
+abbrev pub EditsRowGives : {G : Type 0} → TextReading G → ℕ → List (EditContent G) → Record
     → Result (List (EditContent G)) ReadFault → Type 0
 EditsRowGives {G} reads n edits row answer =
     (edit : Result (EditContent G) ReadFault) × EditRowGives reads n row edit
@@ -58,7 +58,8 @@ EditsRowGives {G} reads n edits row answer =
 
 abbrev pub IsEditFile : {G : Type 0} → Reading G → List ℕ
     → Result (List (EditContent G)) ReadFault → Type 0
-IsEditFile reads bytes answer = FileGives edit_columns (EditsRowGives reads) [] bytes answer
+IsEditFile reads bytes answer =
+    FileGives edit_columns (EditsRowGives reads.text) [] bytes answer
 
 -- the contents of a list of edits, or the fault
 abbrev pub edit_contents : {G : Type 0} → Result (Vec (Edit G) Global) ReadFault

@@ -2,11 +2,10 @@
 use Rattle.std.specs.Prelude.{◌≡◌, ◌+◌, ◌++◌, ℕ, List, [], length, All}
 use Rattle.csv.specs.Reading.{default_config, records}
 use Rattle.csv.specs.declared.parser.State.TheVariants.{StartRecord}
-use Rattle.format_core.specs.Formats.{Reading}
 use Rattle.row_core.specs.declared.layer_row.ReadRow.{ReadRow}
 use Rattle.file_core.specs.declared.parts.Parts.{Parts}
 use Rattle.file_core.specs.Batches.{SayInTurn, all_rows}
-use Rattle.row_core.specs.LayerRows.{HasId}
+use Rattle.row_core.specs.LayerRows.{HasId, RowForm}
 use Rattle.row_core.specs.Cuts.{EndsBetween}
 
 -- the rows of all parts
@@ -14,8 +13,8 @@ abbrev pub rows_of : {G : Type 0} → Parts G → List (ReadRow G)
 rows_of parts = all_rows parts.rows.items
 
 -- the text ends between two records, and these are its rows
-pub record IsParts {G : Type 0} (reads : Reading G) (text : List ℕ) (parts : Parts G) : Type 0 where
-  pub rows : SayInTurn reads (records default_config text) (rows_of parts) []
+pub record IsParts {G : Type 0} (form : RowForm G) (text : List ℕ) (parts : Parts G) : Type 0 where
+  pub rows : SayInTurn form (records default_config text) (rows_of parts) []
   pub counted : parts.count ≡ length (rows_of parts)
   pub ends : EndsBetween StartRecord text
   pub ids : All HasId (rows_of parts)

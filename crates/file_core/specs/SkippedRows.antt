@@ -1,7 +1,7 @@
 -- A layer's file, read with or without the rows whose geometry can't be read.
 use Rattle.std.specs.Prelude.{◌≡◌, ◌+◌, ℕ, List, [], ◌∷◌, ◌++◌, length, map, Result, Ok, Err}
 use Rattle.format_core.specs.declared.text_fault.TextFault.{TextFault}
-use Rattle.format_core.specs.Formats.{Reading}
+use Rattle.format_core.specs.Layouts.{Reading}
 use Rattle.layer_core.specs.Ids.{id_bytes}
 use Rattle.layer_core.specs.Layers.{Contents, empty, inserted}
 use Rattle.layer_core.specs.Refusals.{insert_refusal}
@@ -11,11 +11,10 @@ use Rattle.file_core.specs.declared.skipped.SkippedRow.{SkippedRow}
 use Rattle.file_core.specs.declared.skipped.Unreadable.{Unreadable}
 use Rattle.file_core.specs.declared.skipped.Unreadable.TheVariants.{Refuse, Skip}
 use Rattle.file_core.specs.declared.skipped.WithSkipped.{WithSkipped}
-use Rattle.file_core.specs.LayerFiles.{IsLayerFile, refused_or}
-use Rattle.row_core.specs.LayerRows.{layer_columns}
-use Rattle.row_core.specs.LayerRows.{RowContent, RowSays}
+use Rattle.file_core.specs.LayerFiles.{IsLayerFile, id_in, refused_or}
+use Rattle.row_core.specs.LayerRows.{RowContent, RowForm, RowSays, form_at}
 use Rattle.row_core.specs.Records.{Record}
-use Rattle.row_core.specs.Rows.{FileGives}
+use Rattle.row_core.specs.Tables.{TableGives}
 use Rattle.row_core.specs.RowFaults.{fault_of_text}
 
 -- a row that was skipped: its number in the file, its id, and the fault of its geometry's text
@@ -57,20 +56,20 @@ with_reading n loaded id (Err fault) = with_unreadable loaded.unreadable n loade
 -- after the row with this number, unless it has a fault
 abbrev pub loaded_with : {G : Type 0} → ℕ → Loaded G → Result (RowContent G) ReadFault
     → Result (Loaded G) ReadFault
-loaded_with n loaded (Ok row) = with_reading n loaded row.id row.shape
+loaded_with n loaded (Ok row) = with_reading n loaded (id_in n row.id) row.shape
 loaded_with n loaded (Err fault) = Err fault
 
--- the result of the row with this number, after those before it, given how geometries read
-abbrev pub LoadsRow : {G : Type 0} → Reading G → ℕ → Loaded G → Record
+-- the result of the row with this number, after those before it, given the form of rows
+abbrev pub LoadsRow : {G : Type 0} → RowForm G → ℕ → Loaded G → Record
     → Result (Loaded G) ReadFault → Type 0
-LoadsRow {G} reads n loaded row answer =
-    (content : Result (RowContent G) ReadFault) × RowSays reads n row content
+LoadsRow {G} form n loaded row answer =
+    (content : Result (RowContent G) ReadFault) × RowSays form n row content
     × (answer ≡ loaded_with n loaded content)
 
 abbrev pub LoadsFile : {G : Type 0} → Reading G → Unreadable → List ℕ
     → Result (Loaded G) ReadFault → Type 0
-LoadsFile reads unreadable bytes answer =
-    FileGives layer_columns (LoadsRow reads) (begun unreadable) bytes answer
+LoadsFile reads unreadable bytes answer = TableGives reads.layout
+    (λ places. LoadsRow (form_at reads places)) (begun unreadable) bytes answer
 
 -- the layer of a file that is read in this way, or its fault
 abbrev pub IsLayerFileBy : {G : Type 0} → Reading G → Unreadable → List ℕ

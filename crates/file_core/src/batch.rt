@@ -2,7 +2,7 @@
 
 ghost use Rattle.std.specs.Prelude.{◌≡◌, ◌<◌, ◌≤◌, [], false, All, IfOk, IfSome, Ok};
 ghost use Rattle.file_core.specs.Batches.{AnswersRows, CanNumber, IsBatch, IsNext, all_rows};
-ghost use Rattle.row_core.specs.LayerRows.{HasId};
+ghost use Rattle.row_core.specs.LayerRows.{HasId, form_of};
 ghost use Rattle.row_core.specs.Cuts.{IsClosed};
 ghost use Rattle.file_core.specs.Parts.{IsParts};
 ghost use Rattle.row_core.specs.Rows.{IsReading, has_unended, rows_left};
@@ -16,7 +16,7 @@ use crate::parts::{Parts, read_four, read_two};
 use format_core::Format;
 use layer_core::Geometry;
 use layer_edit_core::FeatureListBuilder;
-use row_core::{ReadFault, ReadRow, RowReader, Rows, Unread, is_plain, read_row};
+use row_core::{LayerRowReader, ReadFault, ReadRow, Rows, Unread, is_plain, read_row};
 use std::alloc::AllocError;
 use std::thread;
 use std::thread::Threads;
@@ -40,11 +40,11 @@ pub(crate) struct Batch<G> {
 
 /// Reads the next rows, one after another.
 fn read_batch<'a, F: Format>(
-    reader: RowReader<F>,
+    reader: LayerRowReader<F>,
     unread: Unread<'a>,
 ) -> (Unread<'a>, Batch<F::Geometry>)
     requires { IsUnread unread }
-    ensures { IsNext (F.reads reader.format) unread.entry result }
+    ensures { IsNext (form_of F.reads reader) unread.entry result }
 {
     match read_rows(reader, unread) {
         Ok(read) => read,
@@ -62,11 +62,11 @@ fn read_batch<'a, F: Format>(
 
 /// The next rows, read one after another, or the error if an allocation fails.
 fn read_rows<'a, F: Format>(
-    reader: RowReader<F>,
+    reader: LayerRowReader<F>,
     unread: Unread<'a>,
 ) -> Result<(Unread<'a>, Batch<F::Geometry>), AllocError>
     requires { IsUnread unread }
-    ensures { IfOk result (IsNext (F.reads reader.format) unread.entry) }
+    ensures { IfOk result (IsNext (form_of F.reads reader) unread.entry) }
 {
     let mut rows = unread.into_rows(reader.alloc)?;
     let mut read = Vec::new(reader.alloc);
@@ -78,7 +78,7 @@ fn read_rows<'a, F: Format>(
 
 /// Reads the next rows, at most `most`, into an empty list, and returns whether more may follow.
 pub(crate) fn fill<F: Format>(
-    reader: RowReader<F>,
+    reader: LayerRowReader<F>,
     read: &mut Vec<ReadRow<F::Geometry>>,
     rows: &mut Rows,
     most: usize,
@@ -86,7 +86,7 @@ pub(crate) fn fill<F: Format>(
     requires empty { read.old.items ≡ [] }
     requires reading { IsReading rows.old }
     requires some { 0 < most }
-    ensures batch { IsBatch (F.reads reader.format) (Unread.Rows rows.old) read.new.items result
+    ensures batch { IsBatch (form_of F.reads reader) (Unread.Rows rows.old) read.new.items result
         (Unread.Rows rows.new) }
     ensures closed { result ≡ Ok false → has_unended rows.new ≡ false
         → All IsClosed (rows_left rows.old) }
@@ -123,12 +123,12 @@ impl<R> Crew<'_, R> {
 
 /// Reads the next rows, side by side if there are several threads.
 pub(crate) fn read_next<'a, F: Format, R: Threads + Sync>(
-    reader: RowReader<F>,
+    reader: LayerRowReader<F>,
     crew: &Crew<'_, R>,
     unread: Unread<'a>,
 ) -> (Unread<'a>, Batch<F::Geometry>)
     requires { IsUnread unread }
-    ensures { IsNext (F.reads reader.format) unread.entry result }
+    ensures { IsNext (form_of F.reads reader) unread.entry result }
 {
     if crew.threads > 1 {
         if let Some((behind, batch)) = read_parts(reader, crew, &unread) {
@@ -140,12 +140,12 @@ pub(crate) fn read_next<'a, F: Format, R: Threads + Sync>(
 
 /// The next rows, read side by side, if they are those of a text that isn't short.
 fn read_parts<'a, F: Format, R: Threads + Sync>(
-    reader: RowReader<F>,
+    reader: LayerRowReader<F>,
     crew: &Crew<'_, R>,
     unread: &Unread<'a>,
 ) -> Option<(Unread<'a>, Batch<F::Geometry>)>
     requires { IsUnread unread.now }
-    ensures { IfSome result (IsNext (F.reads reader.format) unread.now) }
+    ensures { IfSome result (IsNext (form_of F.reads reader) unread.now) }
 {
     let Unread::Text(text, count) = unread else {
         return None;
@@ -168,11 +168,11 @@ fn read_parts<'a, F: Format, R: Threads + Sync>(
 
 /// The rows of a text, read side by side.
 fn read_round<F: Format, R: Threads + Sync>(
-    reader: RowReader<F>,
+    reader: LayerRowReader<F>,
     crew: &Crew<'_, R>,
     text: &[u8],
 ) -> Option<Parts<F::Geometry>>
-    ensures { IfSome result (IsParts (F.reads reader.format) text.now) }
+    ensures { IfSome result (IsParts (form_of F.reads reader) text.now) }
 {
     match crew.parts() {
         2 => read_two(reader, crew.rt, text),
@@ -183,7 +183,7 @@ fn read_round<F: Format, R: Threads + Sync>(
 /// Adds the given rows, and reads the next batch even if a row is refused: side by side if there
 /// are several threads.
 pub(crate) fn add_and_read<'a, F: Format, R: Threads + Sync>(
-    reader: RowReader<F>,
+    reader: LayerRowReader<F>,
     crew: &Crew<'_, R>,
     loading: Loading<FeatureListBuilder<F::Geometry>>,
     read: Vec<Vec<ReadRow<F::Geometry>>>,
@@ -196,7 +196,7 @@ pub(crate) fn add_and_read<'a, F: Format, R: Threads + Sync>(
     requires few { CanNumber (loaded_of loading) (all_rows read.items) }
     requires reading { IsUnread unread }
     ensures added { AnswersRows (loaded_of loading) (all_rows read.items) result.0 }
-    ensures read { IsNext (F.reads reader.format) unread.entry result.1 }
+    ensures read { IsNext (form_of F.reads reader) unread.entry result.1 }
 {
     let add = move || -> Result<Loading<FeatureListBuilder<F::Geometry>>, ReadFault>
         requires ids { All HasId (all_rows read.items) }
@@ -205,7 +205,7 @@ pub(crate) fn add_and_read<'a, F: Format, R: Threads + Sync>(
     { with_parts(loading, read) };
     let read_on = move || -> (Unread, Batch<F::Geometry>)
         requires { IsUnread unread }
-        ensures { IsNext (F.reads reader.format) unread.entry result }
+        ensures { IsNext (form_of F.reads reader) unread.entry result }
     { read_next(reader, crew, unread) };
     if crew.threads > 1 {
         thread::join(crew.rt, add, read_on)

@@ -34,9 +34,12 @@ pub fn edits_of_bytes<F: Format>(
     bytes: &[u8],
     format: F,
 ) -> Result<Vec<Edit<F::Geometry>>, ReadFault>
+    // the same of edits
     ensures file { result ≢ Err ReadFault.Memory
         → IsEditFile (F.reads format) bytes.now (edit_contents result) }
+    // no more edits than a file has bytes
     ensures few { IfOk result (λ edits. length edits.items ≤ most_file_bytes) }
+    // never `Io`
     ensures no_io { result ≢ Err ReadFault.Io }
 {
     let mut rows = Rows::open(alloc, bytes, &COLUMNS)?;
@@ -61,6 +64,7 @@ pub fn read_edits<S: Source, F: Format>(
     format: F,
 ) -> Result<Vec<Edit<F::Geometry>>, ReadFault>
     requires { S.has_failed source.old ≡ false }
+    // the same of edits
     ensures io { IsErrOf result ReadFault.Io ↔ IsTrue (S.has_failed source.new) }
     ensures file { result ≢ Err ReadFault.Io → result ≢ Err ReadFault.Memory
         → IfSome (S.remaining source.old)
@@ -77,10 +81,10 @@ fn edit_of_row<F: Format>(
     number: u32,
     row: &ByteRecord,
 ) -> Result<Edit<F::Geometry>, ReadFault>
-    ensures ok { IfOk result (λ edit. EditRowGives (F.reads reader.format) number
+    ensures ok { IfOk result (λ edit. EditRowGives (F.reads reader.format).text number
         (fields_of row.now) (Ok (content_of edit))) }
     ensures err { IfErr result (λ fault. fault ≢ ReadFault.Memory
-        → EditRowGives (F.reads reader.format) number (fields_of row.now) (Err fault)) }
+        → EditRowGives (F.reads reader.format).text number (fields_of row.now) (Err fault)) }
     ensures no_io { result ≢ Err ReadFault.Io }
 {
     let (op, layer, id, wkt) = four_fields(row).ok_or(ReadFault::Row(number))?;
@@ -101,10 +105,10 @@ fn insertion<F: Format>(
     id: &[u8],
     wkt: &[u8],
 ) -> Result<Edit<F::Geometry>, ReadFault>
-    ensures ok { IfOk result (λ edit. InsertionGives (F.reads reader.format) number side id.now
+    ensures ok { IfOk result (λ edit. InsertionGives (F.reads reader.format).text number side id.now
         wkt.now (Ok (content_of edit))) }
     ensures err { IfErr result (λ fault. fault ≢ ReadFault.Memory
-        → InsertionGives (F.reads reader.format) number side id.now wkt.now (Err fault)) }
+        → InsertionGives (F.reads reader.format).text number side id.now wkt.now (Err fault)) }
     ensures no_io { result ≢ Err ReadFault.Io }
 {
     let id = id_in(id).ok_or(ReadFault::Layer(number, LayerFault::BadId))?;

@@ -1,10 +1,12 @@
 //! Adding the rows of a layer's file to those before them.
 
-ghost use Rattle.std.specs.Prelude.{◌≡◌, ◌≢◌, ◌+◌, ◌≤◌, Ok, Err, All, OnOk, IfErr, IsTrue};
+ghost use Rattle.std.specs.Prelude.{◌≡◌, ◌≢◌, ◌+◌, ◌≤◌, Ok, Err, All, OnOk, IfOk, IfErr, IsTrue};
+ghost use Rattle.std.specs.Prelude.{option_map};
 ghost use Rattle.layer_core.specs.Ids.{id_bytes};
 ghost use Rattle.layer_core.specs.Refusals.{is_id};
 ghost use Rattle.file_core.specs.Batches.{CanNumber, all_rows, with_rows};
-ghost use Rattle.row_core.specs.LayerRows.{HasId};
+ghost use Rattle.file_core.specs.LayerFiles.{id_in};
+ghost use Rattle.row_core.specs.LayerRows.{HasId, HasIdLength};
 ghost use Rattle.row_core.specs.LayerRows.{content_of};
 ghost use Rattle.row_core.specs.Rows.{most_rows};
 ghost use Rattle.file_core.specs.SkippedRows.{loaded_of, loaded_with, rows_in, with_reading};
@@ -13,9 +15,11 @@ ghost use Rattle.file_core.specs.SkippedRows.{with_unreadable};
 use crate::loading::{Loading, next_row};
 use crate::skipped::{SkippedRow, Unreadable};
 use format_core::TextFault;
+use itoa::Buffer;
 use layer_core::{Geometry, Id};
 use layer_edit_core::FeatureListBuilder;
 use row_core::{ReadFault, ReadRow};
+use std::alloc::{AllocError, Global};
 
 /// Adds the next row, whose geometry was read: inserts its feature.
 fn insert<G: Geometry>(
@@ -67,6 +71,19 @@ fn skip_or_refuse<G: Geometry>(
     }
 }
 
+/// The id of the row with this number, which is the number where the file has no ids.
+#[tactic(auto, using(crate::proofs::LoadedLemmas::number_id))]
+fn id_or_number(alloc: Global, id: Option<Id>, row: u32) -> Result<Id, AllocError>
+    requires { HasIdLength id }
+    ensures is { IfOk result (λ found. id_bytes found ≡ id_in row (option_map id_bytes id)) }
+    ensures length { IfOk result (λ found. IsTrue (is_id (id_bytes found))) }
+{
+    match id {
+        Some(id) => Ok(id),
+        None => Id::from_str(alloc, Buffer::new().format(row)),
+    }
+}
+
 /// Inserts the feature of the next row, or skips the row.
 pub(crate) fn add_row<G: Geometry>(
     loading: &mut Loading<FeatureListBuilder<G>>,
@@ -83,6 +100,7 @@ pub(crate) fn add_row<G: Geometry>(
     ensures no_io { result ≢ Err ReadFault.Io }
 {
     let ReadRow { id, shape } = row;
+    let id = id_or_number(loading.alloc, id, next_row(loading))?;
     match shape {
         Ok(shape) => insert(loading, id, shape),
         Err(fault) => skip_or_refuse(loading, id, fault),

@@ -2,12 +2,13 @@
 
 ghost use Rattle.std.specs.Prelude.{◌≡◌, ◌≢◌, ◌≤◌, ◌↔◌, false, Ok, Err, All, IsErrOf, IsTrue};
 ghost use Rattle.std.specs.Prelude.{IfOk, IfErr, IfSome};
-ghost use Rattle.file_core.specs.Batches.{CanNumber, IsBatch, after_rows, all_rows};
-ghost use Rattle.row_core.specs.LayerRows.{HasId};
+ghost use Rattle.file_core.specs.Batches.{CanNumber, IsBatch, UnreadGive, after_rows, all_rows};
+ghost use Rattle.row_core.specs.LayerRows.{HasId, form_of};
 ghost use Rattle.file_core.specs.Batches.{if_loaded, with_rows};
 ghost use Rattle.file_core.specs.LayerFiles.{IsLayerFile, list_read};
-ghost use Rattle.file_core.specs.SkippedRows.{LoadsFile, loaded_of, loaded_or, with_skipped_or};
-ghost use Rattle.row_core.specs.Unread.{IsUnread};
+ghost use Rattle.file_core.specs.SkippedRows.{LoadsFile, loaded_of, loaded_or, rows_in};
+ghost use Rattle.file_core.specs.SkippedRows.{with_skipped_or};
+ghost use Rattle.row_core.specs.Unread.{IsUnread, count_unread};
 ghost use Rattle.layer_core.specs.Limits.{most_features};
 
 use crate::batch::{Batch, Crew, MIN_THREADED_BYTES, add_and_read, read_next};
@@ -18,7 +19,7 @@ use crate::skipped::{Unreadable, WithSkipped};
 use format_core::Format;
 use layer_core::{FeatureList, Geometry, Layer, MAX_FEATURES};
 use layer_edit_core::FeatureListBuilder;
-use row_core::{ReadFault, RowReader, Source, Unread, read_all};
+use row_core::{LayerRowReader, ReadFault, Source, Unread, read_all};
 use std::alloc::Global;
 use std::hash::RandomState;
 use std::thread::Threads;
@@ -34,7 +35,7 @@ const SAMPLE: usize = 65_536;
 pub struct LayerReader<'r, F, R> {
     pub rt: &'r R,
     pub alloc: Global,
-    /// How the geometries read.
+    /// How the files are laid out, and how their geometries read.
     pub format: F,
     pub threads: u32,
 }
@@ -42,13 +43,15 @@ pub struct LayerReader<'r, F, R> {
 impl<F: Format, R: Threads + Sync> LayerReader<'_, F, R> {
     /// The features of a layer's CSV file. `state` hashes the ids.
     ///
-    /// The file has records of comma-separated fields with double quotes if needed (RFC 4180), with
-    /// line ends LF or CR LF. Its header is `id,wkt`, in any ASCII case, with or without a byte
-    /// order mark before it. Each row inserts a feature, by [`FeatureListBuilder::add`].
+    /// The file has records of fields with double quotes if needed (RFC 4180), with line ends LF or
+    /// CR LF, and between fields the character of the format's layout. Its header has the columns of
+    /// the layout, `id,wkt` or any columns among which are the named ones, in any ASCII case, with
+    /// or without a byte order mark before it. Each row inserts a feature, by
+    /// [`FeatureListBuilder::add`], whose id is the row's number where the file has no ids.
     ///
     /// # Errors
     /// [`ReadFault::TooLong`] and [`ReadFault::Header`], in this order, and then the fault of the
-    /// first row that has one: [`ReadFault::Row`] if it doesn't have two fields, else
+    /// first row that has one: [`ReadFault::Row`] if it hasn't as many fields as the header, else
     /// [`LayerFault::BadId`], else that of the geometry's text, which is [`ReadFault::Wkt`] or
     /// [`ReadFault::Geometry`], else [`LayerFault::DoubleId`], else [`LayerFault::LayerFull`].
     /// [`ReadFault::Memory`] may come in place of any other.
@@ -57,8 +60,11 @@ impl<F: Format, R: Threads + Sync> LayerReader<'_, F, R> {
         state: RandomState,
         bytes: &[u8],
     ) -> Result<FeatureList<F::Geometry>, ReadFault>
+        // for any number of threads, exactly the features or the first fault that the CSV records
+        // give by the format of their geometries, unless memory is refused
         ensures file { result ≢ Err ReadFault.Memory
             → IsLayerFile (F.reads self.now.format) bytes.now result }
+        // never `Io`
         ensures no_io { result ≢ Err ReadFault.Io }
     {
         let loading = self.load(Unreadable::Refuse, state, bytes)?;
@@ -75,6 +81,7 @@ impl<F: Format, R: Threads + Sync> LayerReader<'_, F, R> {
         state: RandomState,
         bytes: Vec<u8>,
     ) -> Result<Layer<F::Geometry>, ReadFault>
+        // the same of the layer of these features
         ensures file { result ≢ Err ReadFault.Memory
             → IsLayerFile (F.reads self.now.format) bytes.items (list_read result) }
         ensures no_io { result ≢ Err ReadFault.Io }
@@ -96,7 +103,9 @@ impl<F: Format, R: Threads + Sync> LayerReader<'_, F, R> {
         source: &mut S,
     ) -> Result<Layer<F::Geometry>, ReadFault>
         requires { S.has_failed source.old ≡ false }
+        // `Io` exactly where the reader has failed
         ensures io { IsErrOf result ReadFault.Io ↔ IsTrue (S.has_failed source.new) }
+        // as of its bytes
         ensures file { result ≢ Err ReadFault.Io → result ≢ Err ReadFault.Memory
             → IfSome (S.remaining source.old)
             (λ bytes. IsLayerFile (F.reads self.now.format) bytes (list_read result)) }
@@ -119,9 +128,14 @@ impl<F: Format, R: Threads + Sync> LayerReader<'_, F, R> {
         state: RandomState,
         bytes: &[u8],
     ) -> Result<WithSkipped<FeatureList<F::Geometry>>, ReadFault>
+        // where rows are skipped, for any number of threads, exactly the features of the rows whose
+        // geometry reads, and exactly the other rows, in file order, each with its number, its id
+        // and the fault of its text; or the first fault of another kind, unless memory is refused;
+        // where none is skipped, as `LayerReader::features_of_bytes`
         ensures file { result ≢ Err ReadFault.Memory
             → LoadsFile (F.reads self.now.format) unreadable bytes.now
             (with_skipped_or unreadable (λ features. features) result) }
+        // never `Io`
         ensures no_io { result ≢ Err ReadFault.Io }
     {
         let Loading {
@@ -146,6 +160,7 @@ impl<F: Format, R: Threads + Sync> LayerReader<'_, F, R> {
         state: RandomState,
         bytes: Vec<u8>,
     ) -> Result<WithSkipped<Layer<F::Geometry>>, ReadFault>
+        // the same of the layer of these features
         ensures file { result ≢ Err ReadFault.Memory
             → LoadsFile (F.reads self.now.format) unreadable bytes.items
             (with_skipped_or unreadable (λ layer. layer.list) result) }
@@ -173,15 +188,11 @@ impl<F: Format, R: Threads + Sync> LayerReader<'_, F, R> {
             → LoadsFile (F.reads self.now.format) unreadable bytes.now (loaded_or result) }
         ensures no_io { result ≢ Err ReadFault.Io }
     {
-        let reader = RowReader {
-            alloc: self.alloc,
-            format: self.format,
-        };
         let crew = Crew {
             rt: self.rt,
             threads: self.threads_for(bytes),
         };
-        load(reader, &crew, unreadable, state, bytes)
+        load(self.alloc, self.format, &crew, unreadable, state, bytes)
     }
 
     /// The number of threads for a file of these bytes: 1 if they are few.
@@ -194,20 +205,42 @@ impl<F: Format, R: Threads + Sync> LayerReader<'_, F, R> {
     }
 }
 
-/// The rows of a file, read and added batch by batch.
+/// The rows of a file in this format.
 fn load<F: Format, R: Threads + Sync>(
-    reader: RowReader<F>,
+    alloc: Global,
+    format: F,
     crew: &Crew<'_, R>,
     unreadable: Unreadable,
     state: RandomState,
     bytes: &[u8],
 ) -> Result<Loading<FeatureListBuilder<F::Geometry>>, ReadFault>
     ensures file { result ≢ Err ReadFault.Memory
-        → LoadsFile (F.reads reader.format) unreadable bytes.now (loaded_or result) }
+        → LoadsFile (F.reads format) unreadable bytes.now (loaded_or result) }
     ensures no_io { result ≢ Err ReadFault.Io }
 {
-    let unread = Unread::open(reader.alloc, bytes)?;
-    let loading = begin(reader.alloc, state, unreadable, likely_rows(bytes))?;
+    let (unread, places) = Unread::open(alloc, bytes, format.layout())?;
+    let loading = begin(alloc, state, unreadable, likely_rows(bytes))?;
+    let reader = LayerRowReader {
+        alloc,
+        format,
+        places,
+    };
+    add_all(reader, crew, loading, unread)
+}
+
+/// The rows before, with those that aren't read yet added, batch by batch.
+fn add_all<F: Format, R: Threads + Sync>(
+    reader: LayerRowReader<F>,
+    crew: &Crew<'_, R>,
+    loading: Loading<FeatureListBuilder<F::Geometry>>,
+    unread: Unread<'_>,
+) -> Result<Loading<FeatureListBuilder<F::Geometry>>, ReadFault>
+    requires reading { IsUnread unread }
+    requires next { count_unread unread ≡ rows_in (loaded_of loading) }
+    ensures rows { result ≢ Err ReadFault.Memory → UnreadGive (form_of F.reads reader)
+        unread.entry (loaded_of loading) (loaded_or result) }
+    ensures no_io { result ≢ Err ReadFault.Io }
+{
     let (unread, batch) = read_next(reader, crew, unread);
     let mut round = Round {
         loading,
@@ -231,7 +264,7 @@ struct Round<'a, G: Geometry> {
 
 /// Adds the rows of a batch, and reads the next one.
 fn next_round<'a, F: Format, R: Threads + Sync>(
-    reader: RowReader<F>,
+    reader: LayerRowReader<F>,
     crew: &Crew<'_, R>,
     round: Round<'a, F::Geometry>,
 ) -> Result<Round<'a, F::Geometry>, ReadFault>
@@ -245,7 +278,7 @@ fn next_round<'a, F: Format, R: Threads + Sync>(
         → with_rows (loaded_of round.entry.loading) (all_rows round.entry.batch.rows.items)
         ≡ Err fault) }
     ensures no_io { result ≢ Err ReadFault.Io }
-    ensures read { IfOk result (λ next. IsBatch (F.reads reader.format) round.entry.unread
+    ensures read { IfOk result (λ next. IsBatch (form_of F.reads reader) round.entry.unread
         (all_rows next.batch.rows.items) next.batch.more next.unread) }
 {
     let Round {

@@ -17,6 +17,7 @@ pub(crate) struct Loading<T> {
     pub(crate) features: T,
     pub(crate) skipped: Vec<SkippedRow>,
     pub(crate) unreadable: Unreadable,
+    pub(crate) alloc: Global,
 }
 
 /// Before the first row, with memory for this number of features. `state` hashes the ids.
@@ -32,6 +33,7 @@ pub(crate) fn begin<G: Geometry>(
         features: FeatureListBuilder::new(alloc, state, likely_rows)?,
         skipped: Vec::new(alloc),
         unreadable,
+        alloc,
     })
 }
 

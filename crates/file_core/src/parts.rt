@@ -1,12 +1,13 @@
 //! Parts of a text of records that are read in parallel.
 
 ghost use Rattle.std.specs.Prelude.{◌≡◌, ◌++◌, IfSome};
+ghost use Rattle.row_core.specs.LayerRows.{form_of};
 ghost use Rattle.file_core.specs.Parts.{IsBoth, IsOnePart, IsParts};
 
 use crate::batch::fill;
 use crate::cuts::{cut, line_feeds};
 use format_core::Format;
-use row_core::{MAX_FILE_BYTES, ReadRow, RowReader, Rows, ends_with_feed, is_plain};
+use row_core::{LayerRowReader, MAX_FILE_BYTES, ReadRow, Rows, ends_with_feed, is_plain};
 use std::alloc::Global;
 use std::thread;
 use std::thread::Threads;
@@ -37,18 +38,18 @@ impl<G: Drop> Parts<G> {
 /// a row has another fault than that of its geometry.
 #[tactic(auto, using(crate::proofs::PartLemmas::parts_both))]
 pub(crate) fn read_two<F: Format, R: Threads + Sync>(
-    reader: RowReader<F>,
+    reader: LayerRowReader<F>,
     rt: &R,
     text: &[u8],
 ) -> Option<Parts<F::Geometry>>
-    ensures { IfSome result (IsParts (F.reads reader.format) text.now) }
+    ensures { IfSome result (IsParts (form_of F.reads reader) text.now) }
 {
     let (front, back) = cut(text, text.len() / 2);
     let read_front = move || -> Option<Parts<F::Geometry>>
-        ensures { IfSome result (IsParts (F.reads reader.format) front.entry.now) }
+        ensures { IfSome result (IsParts (form_of F.reads reader) front.entry.now) }
     { read_whole(reader, front) };
     let read_back = move || -> Option<Parts<F::Geometry>>
-        ensures { IfSome result (IsParts (F.reads reader.format) back.entry.now) }
+        ensures { IfSome result (IsParts (form_of F.reads reader) back.entry.now) }
     { read_whole(reader, back) };
     let (first, second) = thread::join(rt, read_front, read_back);
     first?.and(second?)
@@ -57,18 +58,18 @@ pub(crate) fn read_two<F: Format, R: Threads + Sync>(
 /// The rows of a text, read as by [`read_two`], but each quarter in a thread of its own.
 #[tactic(auto, using(crate::proofs::PartLemmas::parts_both))]
 pub(crate) fn read_four<F: Format, R: Threads + Sync>(
-    reader: RowReader<F>,
+    reader: LayerRowReader<F>,
     rt: &R,
     text: &[u8],
 ) -> Option<Parts<F::Geometry>>
-    ensures { IfSome result (IsParts (F.reads reader.format) text.now) }
+    ensures { IfSome result (IsParts (form_of F.reads reader) text.now) }
 {
     let (front, back) = cut(text, text.len() / 2);
     let read_front = move || -> Option<Parts<F::Geometry>>
-        ensures { IfSome result (IsParts (F.reads reader.format) front.entry.now) }
+        ensures { IfSome result (IsParts (form_of F.reads reader) front.entry.now) }
     { read_two(reader, rt, front) };
     let read_back = move || -> Option<Parts<F::Geometry>>
-        ensures { IfSome result (IsParts (F.reads reader.format) back.entry.now) }
+        ensures { IfSome result (IsParts (form_of F.reads reader) back.entry.now) }
     { read_two(reader, rt, back) };
     let (first_two, last_two) = thread::join(rt, read_front, read_back);
     first_two?.and(last_two?)
@@ -76,8 +77,8 @@ pub(crate) fn read_four<F: Format, R: Threads + Sync>(
 
 /// The rows of a text, if it is seen to begin and end between two records.
 #[tactic(auto, using(crate::proofs::PartLemmas::one_whole))]
-fn read_whole<F: Format>(reader: RowReader<F>, text: &[u8]) -> Option<Parts<F::Geometry>>
-    ensures { IfSome result (IsParts (F.reads reader.format) text.now) }
+fn read_whole<F: Format>(reader: LayerRowReader<F>, text: &[u8]) -> Option<Parts<F::Geometry>>
+    ensures { IfSome result (IsParts (form_of F.reads reader) text.now) }
 {
     if text.len() > MAX_FILE_BYTES || !is_plain(text) || !ends_with_feed(text) {
         return None;

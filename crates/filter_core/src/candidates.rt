@@ -28,8 +28,10 @@ pub fn meeting_layers<R: AllocGlobal + Threads + Wait + Sync, G: Geometry>(
     right: &Layer<G>,
     options: &Options,
 ) -> Result<Outcome, JoinFault>
+    // exactly the pairs whose boxes meet, each once, in layer order
     ensures pairs { let meet = StandIn (BoxesMeet G.box_of) left.now.list right.now.list in
         IfOk result (λ outcome. IsJoinList meet outcome.pairs) }
+    // as above, by the relation of boxes that meet
     ensures marks { let cut = cut_of options.now in let size = batch_of options.now in
         IfOk result (HasMarks relations.Intersects left.now.root right.now.root cut size) }
     ensures err { IfErr result IsWant }

@@ -35,11 +35,16 @@ pub fn join_layers<R: AllocGlobal + Threads + Wait + Sync, G: Geometry>(
     relation: &JoinRelation,
     options: &Options,
 ) -> Result<Outcome, JoinFault>
+    // over every schedule, exactly the pairs of a left and a right feature whose boxes stand in the
+    // relation, each once, in layer order, where a box is its own box
     ensures pairs { let boxes = BoxesStandIn G.box_of (relation_of relation.now) in
         let stand = StandIn boxes left.now.list right.now.list in
         IfOk result (λ outcome. IsJoinList stand outcome.pairs) }
+    // for the plan of the two trees at that cut, a closed legal history in which each task's marks
+    // are those of its script
     ensures marks { let cut = cut_of options.now in let size = batch_of options.now in
         IfOk result (HasMarks (relation_of relation.now) left.now.root right.now.root cut size) }
+    // no fault but out of memory or of threads
     ensures err { IfErr result IsWant }
 {
     let plan = plan_of(rt.alloc(), left, right, options.cut())?;
@@ -59,6 +64,7 @@ pub fn join<R: AllocGlobal + Threads + Wait + Sync, G: Geometry, D: Gate + Sync>
     options: &Options,
     gate: &D,
 ) -> Result<Outcome, JoinFault>
+    // as of `join_layers`
     ensures pairs { let boxes = BoxesStandIn G.box_of (relation_of relation.now) in
         let stand = StandIn boxes left.now.list right.now.list in
         IfOk result (λ outcome. IsJoinList stand outcome.pairs) }

@@ -8,7 +8,7 @@ use Rattle.plane_core.specs.Vertices.{vertices_of, HoldsVertex}
 use Rattle.any_geometry_core.specs.declared.geometry.AnyGeometry.{AnyGeometry}
 use Rattle.any_geometry_core.specs.AnyGeometries.{figure_of, rings_of, box_of}
 use Rattle.number_core.specs.declared.scale.Scale.{Scale}
-use Rattle.wkt_any_core.specs.Readings.{Reads}
+use Rattle.geometry_text_core.specs.Texts.{Reads}
 use Rattle.format_core.specs.Formats.{IsSpelled}
 
 pub spelled : (scale : Scale) (rings : Rings) (wkt : List ℕ) (f : Figure) (g : AnyGeometry)

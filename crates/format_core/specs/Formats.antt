@@ -1,5 +1,5 @@
 -- How the text of a geometry reads.
-use Rattle.std.specs.Prelude.{◌≡◌, ℕ, List, Result, Ok, Err, All}
+use Rattle.std.specs.Prelude.{◌≡◌, ℕ, List, Ok, Err, All}
 use Rattle.geom_core.specs.Cells.{IsIn}
 use Rattle.geom_core.specs.declared.shape.Shape.{Shape}
 use Rattle.plane_core.specs.declared.rings.Rings.{Rings}
@@ -8,19 +8,19 @@ use Rattle.any_geometry_core.specs.declared.geometry.AnyGeometry.{AnyGeometry}
 use Rattle.any_geometry_core.specs.AnyGeometries.{figure_of, rings_of, box_of}
 use Rattle.number_core.specs.declared.scale.Scale.{Scale}
 use Rattle.wkt_core.specs.Readings.{Reads}
-use Rattle.wkt_any_core.specs.Readings as any
-use Rattle.format_core.specs.declared.text_fault.TextFault.{TextFault}
+use Rattle.geometry_text_core.specs.Texts as any
+use Rattle.format_core.specs.Layouts.{Reading, TextReading, plain}
 use Rattle.format_core.specs.declared.text_fault.TextFault.TheVariants as text
 
--- which geometry or fault a text reads as
-abbrev pub Reading : Type 0 → Type 1
-Reading G = List ℕ → Result G TextFault → Type 0
-
 -- a box, with coordinates at a scale
+abbrev pub BoxText : Scale → TextReading Shape
+BoxText scale wkt (Ok shape) = Reads scale wkt (Ok shape)
+BoxText scale wkt (Err (text.Wkt fault)) = Reads scale wkt (Err fault)
+BoxText scale wkt (Err (text.Geometry fault)) = ⊥
+
+-- boxes in files with the columns `id` and `wkt`
 abbrev pub ReadsBox : Scale → Reading Shape
-ReadsBox scale wkt (Ok shape) = Reads scale wkt (Ok shape)
-ReadsBox scale wkt (Err (text.Wkt fault)) = Reads scale wkt (Err fault)
-ReadsBox scale wkt (Err (text.Geometry fault)) = ⊥
+ReadsBox scale = plain (BoxText scale)
 
 -- the text spells the figure of this geometry, which has this rule of rings and the least box that
 -- holds its vertices
@@ -30,7 +30,11 @@ pub record IsSpelled (scale : Scale) (rings : Rings) (wkt : List ℕ) (g : AnyGe
   pub least : (s : Shape) → All (HoldsVertex s) (vertices_of (figure_of g)) → IsIn (box_of g) s
 
 -- a geometry of any kind, with coordinates at a scale and rings by a rule
+abbrev pub AnyText : Scale → Rings → TextReading AnyGeometry
+AnyText scale rings wkt (Ok g) = IsSpelled scale rings wkt g
+AnyText scale rings wkt (Err (text.Wkt fault)) = ⊥
+AnyText scale rings wkt (Err (text.Geometry fault)) = any.Reads scale rings wkt (Err fault)
+
+-- such geometries in files with the columns `id` and `wkt`
 abbrev pub ReadsAny : Scale → Rings → Reading AnyGeometry
-ReadsAny scale rings wkt (Ok g) = IsSpelled scale rings wkt g
-ReadsAny scale rings wkt (Err (text.Wkt fault)) = ⊥
-ReadsAny scale rings wkt (Err (text.Geometry fault)) = any.Reads scale rings wkt (Err fault)
+ReadsAny scale rings = plain (AnyText scale rings)

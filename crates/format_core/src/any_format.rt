@@ -1,6 +1,7 @@
 //! How the text of a geometry of any kind reads.
 
 use crate::format::Format;
+use crate::layout::Layout;
 use crate::text_fault::TextFault;
 use any_geometry_core::AnyGeometry;
 use plane_core::Rings;
@@ -22,12 +23,16 @@ impl Format for AnyFormat {
 
     ghost reads = { λ format. ReadsAny format.scale format.rings };
 
+    fn layout(&self) -> Layout<'_> {
+        Layout::plain()
+    }
+
     fn read(
         &self,
         alloc: Global,
         text: &[u8],
     ) -> Result<Result<AnyGeometry, TextFault>, AllocError> {
-        match wkt_any_core::read(alloc, text, self.scale, self.rings)? {
+        match geometry_text_core::read(alloc, text, self.scale, self.rings)? {
             Ok(geometry) => Ok(Ok(AnyGeometry::new(geometry, self.rings))),
             Err(fault) => Ok(Err(TextFault::Geometry(fault))),
         }

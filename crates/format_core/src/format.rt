@@ -1,20 +1,25 @@
-//! How the text of a geometry reads.
+//! How the files of layers read: their layout, and the texts of their geometries.
 
+use crate::layout::Layout;
 use crate::text_fault::TextFault;
 use geom_core::Shape;
 use std::alloc::{AllocError, Global};
 use wkt_core::Scale;
 
-/// How the texts of geometries of one type read.
+/// How files of layers are laid out, and how the texts of their geometries, of one type, read.
 pub trait Format: Copy + Send + Sync {
-    ghost use Rattle.std.specs.Prelude.{ℕ, List, Result, IfOk};
-    ghost use Rattle.format_core.specs.declared.text_fault.TextFault.{TextFault};
+    ghost use Rattle.std.specs.Prelude.{◌≡◌, IfOk};
+    ghost use Rattle.format_core.specs.Layouts.{Reading};
 
     /// A geometry that a text spells.
     type Geometry: layer_core::Geometry + Send;
 
-    /// The geometry that a text spells, or the text's fault.
-    ghost reads: { Self → List ℕ → Result Self.Geometry TextFault → Type 0 };
+    /// The layout of the files, and the geometry that a text spells, or the text's fault.
+    ghost reads: { Self → Reading Self.Geometry };
+
+    /// The layout of the files.
+    fn layout(&self) -> Layout<'_>
+        ensures { result ≡ (reads self.now).layout };
 
     /// Reads a text. The outer error means that memory ran out.
     fn read(
@@ -22,7 +27,7 @@ pub trait Format: Copy + Send + Sync {
         alloc: Global,
         text: &[u8],
     ) -> Result<Result<Self::Geometry, TextFault>, AllocError>
-        ensures { IfOk result (reads self.now text.now) };
+        ensures { IfOk result ((reads self.now).text text.now) };
 }
 
 /// Boxes, with coordinates at a scale.
@@ -33,6 +38,10 @@ impl Format for Scale {
     type Geometry = Shape;
 
     ghost reads = { ReadsBox };
+
+    fn layout(&self) -> Layout<'_> {
+        Layout::plain()
+    }
 
     #[inline(always)]
     fn read(&self, _alloc: Global, text: &[u8]) -> Result<Result<Shape, TextFault>, AllocError> {

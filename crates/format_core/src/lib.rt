@@ -1,10 +1,15 @@
-//! How the text of a geometry reads: the formats of boxes and of geometries of any kind.
+//! How the files of layers read: their layouts, and the formats of boxes and of geometries of any
+//! kind.
 #![tactic(auto)]
 
 mod any_format;
 mod format;
+mod laid_out;
+mod layout;
 mod text_fault;
 
 pub use any_format::AnyFormat;
 pub use format::Format;
+pub use laid_out::LaidOut;
+pub use layout::{Columns, Delimiter, Layout};
 pub use text_fault::TextFault;

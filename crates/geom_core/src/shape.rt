@@ -25,7 +25,9 @@ impl Shape {
     /// The shape from `(x1, y1)` to `(x2, y2)`, or `None` if these are out of order or a coordinate
     /// is out of range.
     pub fn new(x1: i64, y1: i64, x2: i64, y2: i64) -> Option<Shape>
+        // Some exactly for corners in order and in range
         ensures some { IsSome result ↔ AreCorners x1 y1 x2 y2 }
+        // the shape has these
         ensures corners { IfSome result (HasCorners x1 y1 x2 y2) }
     {
         let x = Span::new(x1, x2)?;
@@ -94,9 +96,12 @@ impl Shape {
 
     /// The smallest shape that contains both.
     pub fn cover(&self, other: &Shape) -> Shape
+        // it contains both
         ensures first { IsIn self.now result }
         ensures second { IsIn other.now result }
+        // no smaller shape does
         ensures least { (s : Shape) → IsIn self.now s → IsIn other.now s → IsIn result s }
+        // names its corners
         ensures corners { result ≡ cover_of self.now other.now }
     {
         let x = self.x.joined(&other.x);
@@ -106,7 +111,9 @@ impl Shape {
 
     /// Width times height, which is 0 for a point and for a segment.
     pub fn area(&self) -> Area
+        // width times height
         ensures product { result ≡ area_of self.now }
+        // at most 4,000,000,000,000,000,000,000,000
         ensures bound { result ≤ greatest_area }
     {
         self.x.length() * self.y.length()

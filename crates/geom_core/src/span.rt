@@ -25,7 +25,9 @@ impl Span {
 
     /// The interval from `lo` to `hi`, or `None` if these are out of order or out of range.
     pub fn new(lo: i64, hi: i64) -> Option<Span>
+        // Some exactly for ends in order and in range
         ensures some { IsSome result ↔ AreEnds lo hi }
+        // the interval has these
         ensures lo { IfSome result (λ s. s.lo ≡ lo) }
         ensures hi { IfSome result (λ s. s.hi ≡ hi) }
     {

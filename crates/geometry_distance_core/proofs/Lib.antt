@@ -8,3 +8,4 @@ pub mod StartLemmas
 pub mod MeasuredLemmas
 pub mod DistanceLemmas
 pub mod RangeLemmas
+pub mod SyncLemmas

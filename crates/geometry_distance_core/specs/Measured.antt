@@ -12,6 +12,7 @@ use Rattle.plane_core.specs.Outlines.{outline_part}
 use Rattle.plane_core.specs.Vertices.{paths_in}
 use Rattle.noding_core.specs.Nodes.{IsAmong}
 use Rattle.distance_core.specs.ShapePoints.{HasPoint}
+use Rattle.geometry_distance_core.specs.declared.index.GeometryIndex.{GeometryIndex}
 use Rattle.geometry_distance_core.specs.NearestPairs.{Pairs, is_on_any}
 use Rattle.geometry_distance_core.specs.Skeletons.{is_on_skeleton, IsOnSkeleton}
 
@@ -29,6 +30,10 @@ pub record IsMeasured (g : Figure) (o : Outline) (s : Shape) : Type 0 where
   pub geometry : IsGeometry g
   pub skeleton : IsSkeletonOf g o
   pub box : (p : Point) → 0 < p.w → IsOnSkeleton g p → HasPoint s p
+
+-- the index of a geometry has such an outline and such a box
+abbrev pub IsIndexOf : Figure → GeometryIndex → Type 0
+IsIndexOf g index = IsMeasured g index.edges index.bounds
 
 -- a point of an edge or a single point of each of two geometries
 abbrev pub of_skeletons : Figure → Figure → Pairs

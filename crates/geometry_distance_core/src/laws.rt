@@ -12,6 +12,8 @@ ghost use Rattle.geometry_distance_core.specs.Skeletons.{IsOnSkeleton, AreApart}
 
 /// Closed geometries that share no point are as far apart as their edges and single points.
 pub fn skeleton_law()
+    // for two geometries of any kind that share no point, the least squared distance of their edges
+    // and single points is that of the geometries
     ensures { (g h : Figure) (square : SquaredFraction) → IsGeometry g → IsGeometry h
         → AreApart g h → IsSquareOf square (IsOnSkeleton g) (IsOnSkeleton h)
         → IsSquareOf square (IsPointOf g) (IsPointOf h) }
@@ -20,6 +22,8 @@ pub fn skeleton_law()
 /// Closed geometries are at most a distance apart exactly where their squared distance is at most
 /// the square of that distance.
 pub fn within_law()
+    // a fraction that is the least squared distance of two geometries is at most the square of a
+    // distance exactly where the geometries are at most this distance apart
     ensures { (g h : Figure) (square : SquaredFraction) (units : ℕ)
         → IsSquareOf square (IsPointOf g) (IsPointOf h)
         → (numerator_of square ≤ (units * units) * square.denominator)

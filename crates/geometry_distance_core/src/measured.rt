@@ -1,6 +1,6 @@
-//! Geometries that are indexed for their distances to others.
+//! Geometries with an index, and their distances.
 
-ghost use Rattle.std.specs.Prelude.{◌≡◌, ◌↔◌, ◌<◌, List, length, IfOk, OnOk, IfSome, IsSome};
+ghost use Rattle.std.specs.Prelude.{◌≡◌, ◌↔◌, ◌<◌, List, length, IfSome, IsSome};
 ghost use Rattle.std.specs.Prelude.{IsTrue, ◌⊎◌};
 ghost use Rattle.std.specs.List.{list_any, slice_index_or};
 ghost use Rattle.plane_core.specs.declared.vertex.Vertex.{Vertex};
@@ -12,82 +12,44 @@ ghost use Rattle.distance_core.specs.Distances.{AreWithin};
 ghost use Rattle.distance_core.specs.ShapePoints.{IsPointOf};
 ghost use Rattle.distance_core.specs.Fractions.{IsSquareOf};
 ghost use Rattle.geometry_distance_core.specs.NearestPairs.{IsNearest};
-ghost use Rattle.geometry_distance_core.specs.Measured.{IsSkeletonOf, of_skeletons, starts_in};
-ghost use Rattle.geometry_distance_core.specs.Measured.{ArePointEdges, is_within};
+ghost use Rattle.geometry_distance_core.specs.Measured.{IsIndexOf, of_skeletons, starts_in};
+ghost use Rattle.geometry_distance_core.specs.Measured.{is_within};
 ghost use Rattle.geometry_distance_core.specs.Measured.{HasStartIn, HasStartInArea};
 
+use crate::index::GeometryIndex;
 use crate::nearest::Nearest;
 use crate::search::with_outline;
 use distance_core::{Distance, SquaredFraction, squared_distance};
-use edge_index_core::{IndexedOutline, bounds_of};
-use geom_core::Shape;
-use plane_core::{Edge, Geometry, Kind, Outline, Part, Place, Vertex};
-use std::alloc::{AllocError, Global};
+use edge_index_core::bounds_of;
+use plane_core::{Geometry, Part, Place, Vertex};
 use std::marker::Model;
 
-/// A geometry with its box and an index of its edges, for its distances to any number of others.
-/// Its single points are indexed as edges without a length. In contracts its value is the geometry.
+/// A geometry with its index, for its distances to any number of others. In contracts its value is
+/// the geometry.
 #[derive(Drop)]
 pub struct MeasuredGeometry<'a> {
     geometry: &'a Geometry,
-    edges: IndexedOutline,
-    bounds: Shape,
+    index: &'a GeometryIndex,
 }
 
 impl<'a> Model for MeasuredGeometry<'a> {
     ghost use Rattle.plane_core.specs.Figures.{Figure};
-    ghost use Rattle.geometry_distance_core.specs.Measured.{IsMeasured};
+    ghost use Rattle.geometry_distance_core.specs.Measured.{IsIndexOf};
 
     ghost Value = { Figure };
 
     ghost view = { λ m. m.geometry.now };
 
-    ghost invariant = { λ m. IsMeasured m.geometry.now m.edges m.bounds };
-}
-
-/// Single points as edges without a length.
-fn point_edges(alloc: Global, points: &[Vertex]) -> Result<Vec<Edge>, AllocError>
-    ensures { IfOk result (λ es. ArePointEdges points.now es.items) }
-{
-    let mut edges = Vec::with_capacity(alloc, points.len())?;
-    for v in points {
-        edges.push(Edge { a: *v, b: *v })?;
-    }
-    Ok(edges)
-}
-
-/// The outline of a geometry, with single points as edges.
-fn skeleton_of(alloc: Global, geometry: &Geometry) -> Result<Outline, AllocError>
-    ensures skeleton { IfOk result (IsSkeletonOf geometry.now) }
-    ensures geometry { OnOk result (IsGeometry geometry.now) }
-{
-    let outline = geometry.outline(alloc)?;
-    match outline.kind {
-        Kind::Points => Ok(Outline {
-            kind: Kind::Points,
-            edges: point_edges(alloc, &outline.ends)?,
-            ends: outline.ends,
-        }),
-        Kind::Lines | Kind::Areas => Ok(outline),
-    }
+    ghost invariant = { λ m. IsIndexOf m.geometry.now m.index.now };
 }
 
 impl<'a> MeasuredGeometry<'a> {
-    /// Indexes a geometry.
-    ///
-    /// # Errors
-    /// If an allocation fails.
-    pub fn new(alloc: Global, geometry: &'a Geometry) -> Result<MeasuredGeometry<'a>, AllocError>
-        ensures { IfOk result (λ m. m ≡ geometry.now) }
+    /// A geometry with its index.
+    pub fn new(geometry: &'a Geometry, index: &'a GeometryIndex) -> MeasuredGeometry<'a>
+        requires { IsIndexOf geometry.now index.now }
+        ensures { result ≡ geometry.now }
     {
-        let bounds = geometry.bounds();
-        let skeleton = skeleton_of(alloc, geometry)?;
-        let edges = IndexedOutline::new(alloc, skeleton)?;
-        Ok(MeasuredGeometry {
-            geometry,
-            edges,
-            bounds,
-        })
+        MeasuredGeometry { geometry, index }
     }
 
     /// Whether one of some vertices is a point of the geometry.
@@ -101,7 +63,7 @@ impl<'a> MeasuredGeometry<'a> {
     fn has(&self, v: &Vertex) -> bool
         ensures { result ≡ is_within (part_of self.now (at v.now)) }
     {
-        match self.edges.standing_at(&Place::at(v)).part {
+        match self.index.edges.standing_at(&Place::at(v)).part {
             Part::Interior | Part::Boundary => true,
             Part::Exterior => false,
         }
@@ -148,13 +110,13 @@ impl<'a> MeasuredGeometry<'a> {
         ensures nearest { IsNearest result (of_skeletons self.now other.now) }
     {
         let mut nearest = Nearest::of_none(distance);
-        for e in self.edges.edges() {
+        for e in self.index.edges.edges() {
             let bounds = bounds_of(e);
-            let is_far = nearest.is_past(squared_distance(&bounds, &other.bounds));
+            let is_far = nearest.is_past(squared_distance(&bounds, &other.index.bounds));
             if is_far {
                 continue;
             }
-            nearest = with_outline(nearest, e, &bounds, &other.edges);
+            nearest = with_outline(nearest, e, &bounds, &other.index.edges);
         }
         nearest
     }
@@ -178,7 +140,7 @@ fn nearest_of(first: &MeasuredGeometry, second: &MeasuredGeometry, distance: Dis
     ensures nearest { IsNearest result (of_skeletons first.now second.now) }
     ensures geometries { IsGeometry first.now × IsGeometry second.now }
 {
-    if first.edges.edges().len() <= second.edges.edges().len() {
+    if first.index.edges.edges().len() <= second.index.edges.edges().len() {
         first.nearest_edges(second, distance)
     } else {
         second.nearest_edges(first, distance)
@@ -196,8 +158,12 @@ pub fn square_within(
     second: &MeasuredGeometry,
     distance: Distance,
 ) -> Option<SquaredFraction>
+    // a fraction exactly where the closed geometries are at most the distance apart, and none
+    // otherwise
     ensures within { IsSome result
         ↔ AreWithin (units_of distance) (IsPointOf first.now) (IsPointOf second.now) }
+    // it is the least squared distance of a point of the one and a point of the other, so 0 where
+    // they share a point
     ensures square { IfSome result
         (λ square. IsSquareOf square (IsPointOf first.now) (IsPointOf second.now)) }
 {

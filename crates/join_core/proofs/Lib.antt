@@ -1,4 +1,7 @@
-pub mod DrawRunLemmas
+pub mod AnyFirstsLemmas
+pub mod AnyJoinLemmas
+pub mod CountsLemmas
+pub mod FirstsLemmas
 pub mod JoinRunLemmas
 pub mod ProductLemmas
 pub mod RelatingLemmas

@@ -1,5 +1,6 @@
-pub mod DrawRuns
-pub mod JoinRuns
+pub mod AnyJoinings
+pub mod Counts
+pub mod Firsts
 pub mod Joinings
 pub mod Products
 pub mod Relating

@@ -1,5 +1,6 @@
 //! The description of a join: its condition and its product.
 
+use any_relation_core::AnyRelation;
 use pair_core::{Options, Product};
 use relation_core::JoinRelation;
 use wkt_core::Scale;
@@ -20,4 +21,13 @@ pub struct BoxCondition {
     pub scale: Scale,
     /// The relation of the two features of a pair.
     pub relation: JoinRelation,
+}
+
+/// The condition of a join of any geometry.
+#[derive(Clone, Copy, PartialEq, Eq)]
+pub struct AnyCondition {
+    /// The number of decimals that coordinates of the layers and the edits may have.
+    pub scale: Scale,
+    /// The relation of the two features of a pair, and the rule for rings.
+    pub relation: AnyRelation,
 }

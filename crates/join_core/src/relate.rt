@@ -23,6 +23,8 @@ const LINE: usize = 10;
 /// The fault of the first text that spells no shape, or a fault of the output.
 pub fn run_relate<S: Sink>(scale: Scale, a: &[u8], b: &[u8], sink: &mut S) -> Result<(), RunFault>
     requires { S.has_failed sink.old ≡ false }
+    // of boxes: Ok means that the letters of the matrix and a line feed were written; exactly the
+    // first fault of a text is answered, and none besides but `Write`
     ensures { RunEnds (RelateGives scale a.now b.now) (HasFirstFault scale a.now b.now)
         IsTextFault (λ _. ⊥) S.written S.is_flushed S.has_failed sink.old sink.new result }
 {

@@ -3,7 +3,7 @@
 use geom_core::Shape;
 use layer_core::Layer;
 use layer_edit_core::LayerEditor;
-use near_core::{Distance, GrownShape, NearOutcome, Nearness, SquaredDistance, near_layers};
+use near_core::{Distance, Grown, NearOutcome, Nearness, SquaredDistance, near_layers};
 use pair_core::Options;
 use refine_core::Refined;
 use std::alloc::Global;
@@ -31,13 +31,17 @@ fn layer(
     state: RandomState,
     shapes: &[Corners],
     distance: Distance,
-) -> Option<Layer<GrownShape>> {
+) -> Option<Layer<Grown<Shape>>> {
     let mut editor = LayerEditor::new(alloc, state).ok()?;
     for (number, corners) in shapes.iter().enumerate() {
         let (x1, y1, x2, y2) = *corners;
         let shape = Shape::new(x1, y1, x2, y2)?;
         let id = format!(in alloc; "{number}").ok()?;
-        editor.insert(&id, GrownShape { shape, distance }).ok()?;
+        let grown = Grown {
+            geometry: shape,
+            distance,
+        };
+        editor.insert(&id, grown).ok()?;
     }
     editor.finish().ok()
 }
@@ -49,7 +53,7 @@ pub(crate) fn joined<R: RandomSource + AllocGlobal + Threads + Wait + Sync>(
     units: u64,
     nearness: Nearness,
     options: &Options,
-) -> Option<NearOutcome> {
+) -> Option<NearOutcome<SquaredDistance>> {
     let distance = Distance::new(units)?;
     let left = layer(
         rt.alloc(),

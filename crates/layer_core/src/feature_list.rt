@@ -53,7 +53,9 @@ impl<G: Geometry> FeatureList<G> {
 
     /// The parts that stand for this list.
     pub fn into_parts(self) -> Parts<G>
+        // ids and slots that stand for this list
         ensures same { contents_of (keys_of result.ids.items) result.slots.items ≡ self }
+        // with all that is asked of them
         ensures stand { StandForLayer result.ids.items result.slots.items result.count }
     {
         Box::into_inner(self.features).into_parts()
@@ -74,7 +76,9 @@ impl<G: Geometry> FeatureList<G> {
 
     /// The features in layer order.
     pub fn iter(&self) -> Iter<'_, G>
+        // the list, in order
         ensures features { result ≡ self.now.features }
+        // as above
         ensures layer { IsLayer self.now }
     {
         self.features.iter()
@@ -83,7 +87,9 @@ impl<G: Geometry> FeatureList<G> {
     /// The numbers of features of each dimension, and the height of a tree packed from them. It
     /// visits every feature, and packs no tree.
     pub fn stats(&self) -> Stats
+        // by dimension
         ensures counts { result ≡ counts_of G.dim_of self.now result.height }
+        // that of a tree packed from the list
         ensures height { IsPackedHeight (length self.now.features) result.height }
     {
         self.features
@@ -92,9 +98,12 @@ impl<G: Geometry> FeatureList<G> {
 
     /// The layer of these features.
     pub fn finish(self, alloc: Global) -> Result<Layer<G>, AllocError>
+        // the layer with exactly that list
         ensures list { IfOk result (λ layer. layer.list ≡ self) }
+        // its tree is that of Sort-Tile-Recursive, as `RTree::pack` makes it
         ensures packing { let entries = entries_for G.box_of self in
             IfOk result (λ layer. IfSome layer.root (IsPackingOf entries)) }
+        // has that height
         ensures height { IfOk result
             (λ layer. IsPackedHeight (length self.features) (height_of layer.root)) }
     {
@@ -109,6 +118,7 @@ impl<G: Geometry> FeatureList<G> {
         threads: u32,
         rt: &R,
     ) -> Result<Layer<G>, AllocError>
+        // as of `FeatureList::finish`
         ensures list { IfOk result (λ layer. layer.list ≡ self) }
         ensures packing { let entries = entries_for G.box_of self in
             IfOk result (λ layer. IfSome layer.root (IsPackingOf entries)) }

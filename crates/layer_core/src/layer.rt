@@ -78,8 +78,10 @@ impl<G: Geometry> Layer<G> {
 
     /// The list and the tree.
     pub fn into_list(self) -> (FeatureList<G>, Box<RTree>)
+        // those of the layer
         ensures list { result.0 ≡ self.list }
         ensures root { result.1.value ≡ self.root }
+        // the tree holds exactly the list
         ensures exact { HoldsExactly G.box_of self.list self.root }
     {
         (FeatureList::from_features(self.features), self.tree)
@@ -132,7 +134,9 @@ impl<G: Geometry> Layer<G> {
 
     /// The number of features of the layer.
     pub fn len(&self) -> usize
+        // how many features the list has
         ensures len { result ≡ length self.now.list.features }
+        // ids differ, and numbers rise and are below 1,000,000
         ensures layer { IsLayer self.now.list }
     {
         self.features.len()
@@ -155,7 +159,9 @@ impl<G: Geometry> Layer<G> {
 
     /// The tree, whose entries are the features' boxes with their numbers.
     pub fn tree(&self) -> &RTree
+        // its root
         ensures root { result.now ≡ self.now.root }
+        // it is lawful and holds the boxes of exactly this list with their numbers
         ensures exact { IsTreeOf G.box_of self.now.list self.now.root }
     {
         // By its invariant, the tree is lawful.
@@ -165,7 +171,9 @@ impl<G: Geometry> Layer<G> {
 
     /// The id and the shape of the feature with this number.
     pub fn at(&self, number: u32) -> Option<(&str, &G)>
+        // what the list has of a number
         ensures found { IdAndShapeAre result (with_number number self.now.list) }
+        // as of `Layer::len`
         ensures layer { IsLayer self.now.list }
     {
         self.features.at(number)
@@ -180,7 +188,9 @@ impl<G: Geometry> Layer<G> {
 
     /// The features in layer order.
     pub fn iter(&self) -> Iter<'_, G>
+        // the list, in order
         ensures features { result ≡ self.now.list.features }
+        // as of `Layer::len`
         ensures layer { IsLayer self.now.list }
     {
         self.features.iter()

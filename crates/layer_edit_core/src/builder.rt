@@ -48,7 +48,9 @@ impl<G: Geometry> FeatureListBuilder<G> {
 
     /// The number of features that were inserted.
     pub fn inserted(&self) -> u32
+        // how many features went in
         ensures count { result ≡ self.now.next }
+        // at most 1,000,000
         ensures few { result ≤ most_features }
     {
         self.features.next() as u32
@@ -60,6 +62,7 @@ impl<G: Geometry> FeatureListBuilder<G> {
     /// `DoubleId`, else `LayerFull`, else `Memory`. The list is then unchanged.
     pub fn add(&mut self, id: Id, shape: G) -> Result<(), LayerFault>
         requires { IsTrue (is_id (id_bytes id)) }
+        // the same step as `LayerEditor::insert`
         ensures ok { OnOk result (self.new ≡ inserted self.old (id_bytes id) shape) }
         ensures err { OnErr result (self.new ≡ self.old) }
         ensures refused { AnswersWith (insert_refusal self.old (id_bytes id)) result }

@@ -15,10 +15,13 @@ pub fn apply_edit<G: Geometry>(
     left: &mut LayerEditor<G>,
     right: &mut LayerEditor<G>,
 ) -> Result<(), LayerFault>
+    // one step on the lists of both layers
     ensures ok { OnOk result (both left.new.list right.new.list
         ≡ edited_layers (both left.old.list right.old.list) (content_of edit)) }
+    // a refusal changes neither
     ensures err_left { OnErr result (left.new ≡ left.old) }
     ensures err_right { OnErr result (right.new ≡ right.old) }
+    // as above
     ensures refused { AnswersWith
         (edit_refusal (both left.old.list right.old.list) (content_of edit)) result }
 {

@@ -83,7 +83,9 @@ impl<G: Geometry> LayerEditor<G> {
 
     /// The number and the shape of the feature with this id.
     pub fn find(&self, id: &str) -> Option<(u32, &G)>
+        // what the list has of an id
         ensures found { NumberAndShapeAre result (with_id id.now self.now.list) }
+        // ids differ, and numbers rise and are below 1,000,000
         ensures layer { IsLayer self.now.list }
     {
         self.features.find(id)
@@ -94,8 +96,11 @@ impl<G: Geometry> LayerEditor<G> {
     /// # Errors
     /// `BadId`, else `DoubleId`, else `LayerFull`, else `Memory`. The layer is then unchanged.
     pub fn insert(&mut self, id: &str, shape: G) -> Result<(), LayerFault>
+        // the list has one feature more, at its end
         ensures ok { OnOk result (self.new.list ≡ inserted self.old.list id.now shape) }
+        // a refusal changes neither list nor tree
         ensures err { OnErr result (self.new ≡ self.old) }
+        // each refusal comes exactly in its order
         ensures refused { AnswersWith (insert_refusal self.old.list id.now) result }
     {
         if let Some(refusal) = self.insert_refusal(id) {
@@ -140,9 +145,12 @@ impl<G: Geometry> LayerEditor<G> {
     /// # Errors
     /// `BadId`, else `NoSuchId`, else `Memory`. The layer is then unchanged.
     pub fn remove(&mut self, id: &str) -> Result<G, LayerFault>
+        // the list is without the feature
         ensures ok { OnOk result (self.new.list ≡ deleted self.old.list id.now) }
+        // the answer is its shape
         ensures shape { IfOk result
             (λ s. option_map (λ f. f.shape) (with_id id.now self.old.list) ≡ Some s) }
+        // as above
         ensures err { OnErr result (self.new ≡ self.old) }
         ensures refused { AnswersWith (delete_refusal self.old.list id.now) result }
     {

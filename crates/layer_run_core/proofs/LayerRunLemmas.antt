@@ -1,7 +1,7 @@
 -- The text that a run makes of one layer.
 use Rattle.std.proofs.Common.{ℕ, List, Option, Result, Ok, Err, IfOk}
 use Rattle.layer_core.specs.Layers.{Contents}
-use Rattle.format_core.specs.Formats.{Reading}
+use Rattle.format_core.specs.Layouts.{Reading}
 use Rattle.run_core.specs.declared.fault.RunFault.{RunFault}
 use Rattle.run_core.specs.declared.text.Text.{Text}
 use Rattle.run_core.specs.Inputs.{LayerFile}

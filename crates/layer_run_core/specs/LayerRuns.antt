@@ -1,6 +1,6 @@
 -- The results of a run over the file of one layer.
 use Rattle.std.specs.Prelude.{⊤, ℕ, List, Option, Result, Ok, Err}
-use Rattle.format_core.specs.Formats.{Reading}
+use Rattle.format_core.specs.Layouts.{Reading}
 use Rattle.row_core.specs.declared.read_fault.ReadFault.{ReadFault}
 use Rattle.layer_core.specs.Layers.{Contents}
 use Rattle.run_core.specs.declared.fault.Input.TheVariants as input

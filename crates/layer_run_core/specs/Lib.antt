@@ -1,3 +1,5 @@
+pub mod AnyStats
+pub mod AnyWindows
 pub mod Bounds
 pub mod Jobs
 pub mod LayerRuns

@@ -41,6 +41,8 @@ pub fn run_bounds<R: Threads + Sync, F: Format, L: Source, S: Sink>(
 ) -> Result<(), RunFault>
     requires layer { L.has_failed layer.old ≡ false }
     requires sink { S.has_failed sink.old ≡ false }
+    // of a file in any format: Ok means that the id of each feature and the corners of its box were
+    // written, in layer order, in units of the scale; faults of the file as above
     ensures { let reads = F.reads format in
         let corners = ListsCorners F.Geometry.box_of in
         RunEnds (LayerGives corners reads (L.remaining layer.old)) NoTextFault
@@ -75,12 +77,14 @@ where
     S: Sink,
     requires layer { L.has_failed layer.old ≡ false }
     requires sink { S.has_failed sink.old ≡ false }
+    // as `run_bounds`
     ensures runs { let reads = F.reads reader.now.format in
         let corners = ListsCorners F.Geometry.box_of in
         RunEnds (LayerGives corners reads (L.remaining layer.old)) NoTextFault
         (IsLayerRunFault reads (L.remaining layer.old))
         (OnlyAt Input.Layer (IsTrue (L.has_failed layer.new)))
         S.written S.is_flushed S.has_failed sink.old sink.new result }
+    // as `run_marking`
     ensures marked { let reads = F.reads reader.now.format in
         let file = L.remaining layer.old in
         OnOk result (MarksLayer reads (M.is_marked marks.now) file rows.new.items) }

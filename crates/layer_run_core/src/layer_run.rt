@@ -82,12 +82,17 @@ where
     S: Sink,
     requires layer { L.has_failed layer.old ≡ false }
     requires sink { S.has_failed sink.old ≡ false }
+    // of a file in any format, Ok means that the text made of the file's layer was written; a fault
+    // of the file is the one that the bytes give; out of memory that names no input comes only if
+    // the file gives a layer; `Io` as above
     ensures runs { let file = L.remaining layer.old in
         let reads = F.reads reader.now.format in
         RunEnds (LayerGives (T.is_text_of made.now) reads file)
         NoTextFault (IsLayerRunFault reads file)
         (OnlyAt Input.Layer (IsTrue (L.has_failed layer.new)))
         S.written S.is_flushed S.has_failed sink.old sink.new result }
+    // on success exactly the numbers of the file's rows whose geometry has the property, in file
+    // order
     ensures marked { let reads = F.reads reader.now.format in
         let file = L.remaining layer.old in
         OnOk result (MarksLayer reads (M.is_marked marks.now) file rows.new.items) }

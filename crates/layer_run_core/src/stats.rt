@@ -2,6 +2,7 @@
 
 ghost use Rattle.std.specs.Prelude.{◌≡◌, ◌+◌, ◌≤◌, ◌++◌, false, length, IsTrue};
 ghost use Rattle.format_core.specs.Formats.{ReadsBox};
+ghost use Rattle.format_core.specs.Layouts.{laid_out};
 ghost use Rattle.run_core.specs.declared.fault.Input.{Input};
 ghost use Rattle.layer_run_core.specs.Jobs.{OnlyAt};
 ghost use Rattle.layer_run_core.specs.LayerRuns.{LayerGives, IsLayerRunFault};
@@ -10,6 +11,7 @@ ghost use Rattle.layer_run_core.specs.StatsTexts.{AreCounts, count_line, stats_t
 
 use crate::layer_run::{DEFAULT_WORKERS, LayerText, run_on_layer};
 use file_core::LayerReader;
+use format_core::LaidOut;
 use geom_core::Shape;
 use layer_core::{FeatureList, Stats};
 use report_core::{ROOM, ShortText, Sink};
@@ -31,21 +33,24 @@ pub fn run_stats<R: Threads + Sync, L: Source, S: Sink>(
     rt: &R,
     alloc: Global,
     state: RandomState,
-    scale: Scale,
+    format: LaidOut<'_, Scale>,
     layer: &mut L,
     sink: &mut S,
 ) -> Result<(), RunFault>
     requires layer { L.has_failed layer.old ≡ false }
     requires sink { S.has_failed sink.old ≡ false }
-    ensures { RunEnds (LayerGives AreCounts (ReadsBox scale) (L.remaining layer.old)) NoTextFault
-        (IsLayerRunFault (ReadsBox scale) (L.remaining layer.old))
+    // of boxes: Ok means that the counts of the file's layer were written, with the height of the
+    // tree that is packed from its features; faults of the file as above
+    ensures { let reads = laid_out format.entry.layout (ReadsBox format.entry.format) in
+        RunEnds (LayerGives AreCounts reads (L.remaining layer.old)) NoTextFault
+        (IsLayerRunFault reads (L.remaining layer.old))
         (OnlyAt Input.Layer (IsTrue (L.has_failed layer.new)))
         S.written S.is_flushed S.has_failed sink.old sink.new result }
 {
     let reader = LayerReader {
         rt,
         alloc,
-        format: scale,
+        format,
         threads: DEFAULT_WORKERS,
     };
     run_on_layer(&reader, state, layer, &Counts, sink)

@@ -9,6 +9,7 @@ ghost use Rattle.layer_run_core.specs.Windows.{IsMeetingList};
 
 use crate::layer_run::{DEFAULT_WORKERS, LayerText, run_on_layer};
 use file_core::LayerReader;
+use format_core::LaidOut;
 use geom_core::Shape;
 use layer_core::{FeatureList, Geometry};
 use report_core::Sink;
@@ -32,24 +33,28 @@ pub fn run_window<R: Threads + Sync, L: Source, S: Sink>(
     rt: &R,
     alloc: Global,
     state: RandomState,
-    scale: Scale,
+    format: LaidOut<'_, Scale>,
     layer: &mut L,
     wkt: &[u8],
     sink: &mut S,
 ) -> Result<(), RunFault>
     requires layer { L.has_failed layer.old ≡ false }
     requires sink { S.has_failed sink.old ≡ false }
-    ensures { RunEnds (WindowGives scale wkt.now (L.remaining layer.old))
-        (HasWindowFault scale wkt.now) (IsWindowFault scale wkt.now (L.remaining layer.old))
+    // of boxes: Ok means that the ids of exactly the features that meet the window were written, in
+    // layer order; exactly the fault of the window's text is answered, and a fault of the file, out
+    // of memory too, only where the window is good; otherwise as `run_marking`
+    ensures { let scale = format.entry.format in let file = L.remaining layer.old in
+        RunEnds (WindowGives format.entry.layout scale wkt.now file) (HasWindowFault scale wkt.now)
+        (IsWindowFault format.entry.layout scale wkt.now file)
         (OnlyAt Input.Layer (IsTrue (L.has_failed layer.new)))
         S.written S.is_flushed S.has_failed sink.old sink.new result }
 {
-    match wkt_core::read(wkt, scale) {
+    match wkt_core::read(wkt, format.format) {
         Ok(window) => {
             let reader = LayerReader {
                 rt,
                 alloc,
-                format: scale,
+                format,
                 threads: DEFAULT_WORKERS,
             };
             run_on_layer(&reader, state, layer, &Meeting { window }, sink)
@@ -69,6 +74,8 @@ pub trait Window<G: Geometry> {
     /// # Errors
     /// If an allocation fails.
     fn meets(&self, alloc: Global, geometry: &G) -> Result<bool, AllocError>
+        // of each window: true exactly for the geometries that meet it, as its type says, unless
+        // memory is refused; a box meets the boxes that share a point with it
         ensures { IfOk result (λ meets. IsTrue meets ↔ is_met self.now geometry.now) };
 }
 

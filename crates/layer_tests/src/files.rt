@@ -4,7 +4,7 @@ ghost use Rattle.std.specs.Prelude.{◌≡◌, false};
 
 use crate::devices::{Device, Endless};
 use crate::layers::{point, seen, state};
-use crate::read_layers::{fault_by, fault_of, layer_of, points_file, reader, reads_as, whole};
+use crate::read_layers::{fault_of, layer_of, points_file, reader, reads_as, whole};
 use file_core::edits_of_bytes;
 use geom_core::Shape;
 use layer_core::{Geometry, Layer, LayerFault};
@@ -163,45 +163,6 @@ fn fault_behind<R: Threads + Sync + RandomSource + AllocGlobal>(
     let mut file = points_file(rt.alloc(), count)?;
     file.push_str(rows)?;
     fault_of(rt, file.as_bytes())
-}
-
-/// The fault of a file of a million points followed by this row, loaded by `threads` threads.
-fn fault_behind_million<R: Threads + Sync + RandomSource + AllocGlobal>(
-    rt: &R,
-    row: &str,
-    threads: u32,
-) -> Result<Option<ReadFault>, Fail> {
-    let mut file = points_file(rt.alloc(), 1_000_000)?;
-    file.push_str(row)?;
-    fault_by(rt, file.as_bytes(), threads)
-}
-
-#[test]
-fn full_file_double_id(rt: HostRuntime) -> Result<(), Fail> {
-    let double = fault_behind_million(&rt, "p0,POINT (0 0)\n", 1)?;
-    assert!(rt; double == Some(ReadFault::Layer(1_000_001, LayerFault::DoubleId)));
-    Ok(())
-}
-
-#[test]
-fn full_file_double_id_by_two(rt: HostRuntime) -> Result<(), Fail> {
-    let double = fault_behind_million(&rt, "p0,POINT (0 0)\n", 2)?;
-    assert!(rt; double == Some(ReadFault::Layer(1_000_001, LayerFault::DoubleId)));
-    Ok(())
-}
-
-#[test]
-fn full_file_new_id(rt: HostRuntime) -> Result<(), Fail> {
-    let full = fault_behind_million(&rt, "q,POINT (0 0)\n", 1)?;
-    assert!(rt; full == Some(ReadFault::Layer(1_000_001, LayerFault::LayerFull)));
-    Ok(())
-}
-
-#[test]
-fn full_file_new_id_by_two(rt: HostRuntime) -> Result<(), Fail> {
-    let full = fault_behind_million(&rt, "q,POINT (0 0)\n", 2)?;
-    assert!(rt; full == Some(ReadFault::Layer(1_000_001, LayerFault::LayerFull)));
-    Ok(())
 }
 
 /// The fault of a row is reported with its number, and not as lack of memory.

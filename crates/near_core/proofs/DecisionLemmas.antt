@@ -1,6 +1,6 @@
 -- Deciding two features by their shapes.
 use Rattle.std.proofs.Common.{◌≡◌, ◌↔◌, ℕ, refl, subst}
-use Rattle.std.specs.Prelude.{Option, Some, None, IfSome, IsSome, option_map}
+use Rattle.std.specs.Prelude.{Option, Some, None, IfSome, IsSome, Result, Ok, Err, IfOk, option_map}
 use Rattle.std.specs.Borrow.{Bor}
 use Rattle.layer_core.specs.Layers.{Feature, Contents, with_number, ShapeIs}
 use Rattle.refine_core.specs.Refinements.{IsDecision}
@@ -34,7 +34,7 @@ module _ {G A : Type 0} (R : G → G → Type 0) (S : A → G → G → Type 0) 
     record { first = f; second = s; first_held = is_f; second_held = is_s; holds = answer },
   )
 
-  pub decided : (f s : Feature G) (g h : Bor G) → with_number i left ≡ Some f → with_number j right ≡ Some s
+  decided : (f s : Feature G) (g h : Bor G) → with_number i left ≡ Some f → with_number j right ≡ Some s
       → ShapeIs (Some g) (with_number i left) → ShapeIs (Some h) (with_number j right) → (found : Option A)
       → IsSome found ↔ R g.now h.now → IfSome found (λ m. S m g.now h.now)
       → IsDecision (λ i j. StandIn R left right (i, j)) (λ i j m. StandIn (S m) left right (i, j)) (i, j) found
@@ -44,3 +44,13 @@ module _ {G A : Type 0} (R : G → G → Type 0) (S : A → G → G → Type 0) 
       decided_as f s is_f is_s found
       (subst (λ (x : G). IsSome found ↔ R x s.shape) is_g (subst (λ (y : G). IsSome found ↔ R g.now y) is_h holds))
       (subst (λ (x : G). IfSome found (λ m. S m x s.shape)) is_g (subst (λ (y : G). IfSome found (λ m. S m g.now y)) is_h answer))
+
+-- the same if no allocation fails
+pub decided_if : {G A E : Type 0} (R : G → G → Type 0) (S : A → G → G → Type 0) (left right : Contents G) (i j : ℕ)
+    (f s : Feature G) (g h : Bor G) → with_number i left ≡ Some f → with_number j right ≡ Some s
+    → ShapeIs (Some g) (with_number i left) → ShapeIs (Some h) (with_number j right) → (out : Result (Option A) E)
+    → IfOk out (λ found. IsSome found ↔ R g.now h.now) → IfOk out (λ found. IfSome found (λ m. S m g.now h.now))
+    → IfOk out (IsDecision (λ i j. StandIn R left right (i, j)) (λ i j m. StandIn (S m) left right (i, j)) (i, j))
+decided_if R S left right i j f s g h is_f is_s found_g found_h (Err e) holds answer = tt
+decided_if R S left right i j f s g h is_f is_s found_g found_h (Ok found) holds answer =
+    decided R S left right i j f s g h is_f is_s found_g found_h found holds answer

@@ -3,4 +3,5 @@ pub mod GrowthLemmas
 pub mod JoinLemmas
 pub mod LayerLemmas
 pub mod NearLemmas
-pub mod TouchLemmas
+pub mod SyncLemmas
+pub mod WantedLemmas

@@ -1,4 +1,4 @@
--- The box of a shape, grown by half of its distance.
+-- The box of a geometry, grown by half of a distance.
 use Rattle.std.proofs.Common.{arith}
 use Rattle.std.specs.Prelude.{ℕ, ◌+◌, ◌/◌, ℤ, pos, neg_ℤ, ◌+ℤ◌, ◌-ℤ◌, ◌≤ℤ◌}
 use Rattle.std.specs.Int.{int_min, int_max}
@@ -6,8 +6,9 @@ use Rattle.std.proofs.lemmas.Int.{ints, clamps}
 use Rattle.geom_core.specs.declared.span.Span.{Span}
 use Rattle.geom_core.specs.declared.shape.Shape.{Shape}
 use Rattle.geom_core.specs.Limits.{greatest_coordinate}
+use Rattle.distance_core.specs.declared.distance.Distance.{Distance}
 use Rattle.distance_core.specs.Units.{units_of}
-use Rattle.near_core.specs.declared.grown.GrownShape.{GrownShape}
+use Rattle.near_core.specs.declared.grown.Grown.{Grown}
 
 -- the least and the greatest coordinate
 abbrev pub least : ℤ
@@ -42,11 +43,15 @@ grown by s = record {
   below = grown_below by s;
 }
 
--- half of the distance, rounded up
-abbrev pub growth_of : GrownShape → ℕ
-growth_of g = (units_of g.distance + 1) / 2
+-- half of a distance, rounded up
+abbrev pub growth_of : Distance → ℕ
+growth_of distance = (units_of distance + 1) / 2
 
--- the shape, grown by that along both axes
-abbrev pub grown_box : GrownShape → Shape
-grown_box g =
-    record { x = grown (growth_of g) g.shape.x; y = grown (growth_of g) g.shape.y }
+-- a shape, grown by that along both axes
+abbrev pub grown_shape : Distance → Shape → Shape
+grown_shape distance s =
+    record { x = grown (growth_of distance) s.x; y = grown (growth_of distance) s.y }
+
+-- the box of a geometry, grown by half of its distance
+abbrev pub grown_box : {G : Type 0} → (G → Shape) → Grown G → Shape
+grown_box box_of g = grown_shape g.distance (box_of g.geometry)

@@ -1,4 +1,5 @@
 pub mod Conditions
+pub mod Formats
 pub mod Growth
 pub mod Lists
 pub mod Near

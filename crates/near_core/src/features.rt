@@ -1,110 +1,104 @@
 //! Whether two features of two layers are near, as a condition that a refinement decides.
 
-ghost use Rattle.std.specs.Prelude.{◌≡◌, ◌↔◌, IsSome, IfSome};
-ghost use Rattle.near_core.specs.Near.{AreNear, AreWanted, HaveSquare};
-
-use crate::grown::GrownShape;
-use distance_core::{Nearness, SquaredDistance, squared_distance};
-use layer_core::Layer;
+use crate::grown::Grown;
+use crate::measure::square_if_wanted;
+use crate::prepared::ForDistances;
+use distance_core::Nearness;
+use layer_core::{Geometry as _, Layer};
+use pair_core::Side;
+use planar_core::{Forms, Planar};
+use prepared_core::PreparedLayer;
 use refine_core::Condition;
 use std::alloc::{AllocError, Global};
 
 /// Which features of two layers are near, or near and apart.
 #[derive(Drop)]
-pub struct NearFeatures<'a> {
-    left: &'a Layer<GrownShape>,
-    right: &'a Layer<GrownShape>,
+pub struct NearFeatures<'a, G: Planar> {
+    left: PreparedLayer<'a, Grown<G>, G::Form, ForDistances<G>>,
+    right: PreparedLayer<'a, Grown<G>, G::Form, ForDistances<G>>,
     nearness: Nearness,
 }
 
-impl<'a> NearFeatures<'a> {
-    ghost use Rattle.std.specs.Prelude.{◌≡◌};
+impl<'a, G: Planar> NearFeatures<'a, G> {
+    ghost use Rattle.std.specs.Prelude.{◌≡◌, IfOk};
     ghost use Rattle.near_core.specs.Conditions.{left_of, right_of, wanted};
 
-    /// The near features of these layers, or those of them that are apart.
+    /// The near features of these layers, or those of them that are apart. The forms of the large
+    /// geometries that occur in several of the candidates are made before.
+    ///
+    /// # Errors
+    /// If an allocation fails.
     pub fn new(
-        left: &'a Layer<GrownShape>,
-        right: &'a Layer<GrownShape>,
+        alloc: Global,
+        left: &'a Layer<Grown<G>>,
+        right: &'a Layer<Grown<G>>,
+        candidates: &[(u32, u32)],
         nearness: Nearness,
-    ) -> NearFeatures<'a>
-        ensures left { left_of result ≡ left.now.list }
-        ensures right { right_of result ≡ right.now.list }
-        ensures nearness { wanted result ≡ nearness }
+    ) -> Result<NearFeatures<'a, G>, AllocError>
+        // the condition is on these layers
+        ensures left { IfOk result (λ c. left_of c ≡ left.now.list) }
+        ensures right { IfOk result (λ c. right_of c ≡ right.now.list) }
+        // by this choice of pairs. Its law `stands_near`: the boxes of near features, each grown by
+        // half of its distance, meet
+        ensures nearness { IfOk result (λ c. wanted c ≡ nearness) }
     {
-        NearFeatures {
+        let left = PreparedLayer::new(alloc, left, candidates, Side::Left)?;
+        let right = PreparedLayer::new(alloc, right, candidates, Side::Right)?;
+        Ok(NearFeatures {
             left,
             right,
             nearness,
-        }
+        })
     }
 }
 
-impl<'a> Condition for NearFeatures<'a> {
+impl<'a, G: Planar> Condition for NearFeatures<'a, G> {
     ghost use Rattle.filter_core.specs.Joins.{StandIn};
     ghost use Rattle.near_core.specs.Conditions.{left_of, right_of, wanted};
     ghost use Rattle.near_core.specs.Near.{BoxesMeet, AreWanted, HaveSquare};
     ghost use Rattle.near_core.specs.StandingNear.{standing_near};
 
-    /// The square of the distance of the two shapes.
-    type Answer = SquaredDistance;
+    /// The square of the distance of the two geometries.
+    type Answer = G::Square;
 
-    ghost near = { λ c i j. StandIn BoxesMeet (left_of c) (right_of c) (i, j) };
+    ghost near = { λ c i j. StandIn (BoxesMeet G.box_of) (left_of c) (right_of c) (i, j) };
 
-    ghost stands = { λ c i j. StandIn (AreWanted (wanted c)) (left_of c) (right_of c) (i, j) };
+    ghost stands = { λ c i j.
+        StandIn (AreWanted G.has_point (wanted c)) (left_of c) (right_of c) (i, j) };
 
-    ghost answers = { λ c i j n. StandIn (HaveSquare n) (left_of c) (right_of c) (i, j) };
+    ghost answers = { λ c i j s.
+        StandIn (HaveSquare G.Square.fraction G.has_point s) (left_of c) (right_of c) (i, j) };
 
     fn decide(
         &self,
-        _alloc: Global,
+        alloc: Global,
         left: u32,
         right: u32,
-    ) -> Result<Option<SquaredDistance>, AllocError> {
+    ) -> Result<Option<G::Square>, AllocError> {
+        let forms = Forms {
+            first: self.left.prepared(left),
+            second: self.right.prepared(right),
+        };
         match (self.left.shape(left), self.right.shape(right)) {
-            (Some(first), Some(second)) => Ok(square_if_wanted(self.nearness, first, second)),
+            (Some(first), Some(second)) => {
+                square_if_wanted(alloc, self.nearness, first, second, forms)
+            }
             _ => Ok(None),
         }
     }
 
     fn fetch(&self, _left: u32, right: u32) -> bool {
-        // Both intervals of the shape are read, since they may lie in two cache lines.
+        // Both intervals of the box are read, since they may lie in two cache lines.
         match self.right.shape(right) {
-            Some(GrownShape { shape, .. }) => {
-                shape.x1() <= shape.x2() && shape.y1() <= shape.y2()
+            Some(grown) => {
+                let bounds = grown.geometry.bounds();
+                bounds.x1() <= bounds.x2() && bounds.y1() <= bounds.y2()
             }
             None => false,
         }
     }
 
-    ghost stands_near = { λ c i j stands. standing_near (wanted c) (left_of c) (right_of c) i j
+    ghost stands_near = { λ c i j stands.
+        standing_near G.box_of G.has_point G.in_box (wanted c) (left_of c) (right_of c) i j
         stands };
-}
-
-/// The square of the distance of two shapes, if they are near, and apart if this is asked for.
-fn square_if_wanted(
-    nearness: Nearness,
-    first: &GrownShape,
-    second: &GrownShape,
-) -> Option<SquaredDistance>
-    ensures wanted { IsSome result ↔ AreWanted nearness first.now second.now }
-    ensures square { IfSome result (λ n. HaveSquare n first.now second.now) }
-{
-    match nearness {
-        Nearness::Apart if first.shape.meets(&second.shape) => None,
-        _ => square_if_near(first, second),
-    }
-}
-
-/// The square of the distance of two shapes, if they are near.
-fn square_if_near(first: &GrownShape, second: &GrownShape) -> Option<SquaredDistance>
-    ensures near { IsSome result ↔ AreNear first.now second.now }
-    ensures square { IfSome result (λ n. HaveSquare n first.now second.now) }
-{
-    let square = squared_distance(&first.shape, &second.shape);
-    let units = first.distance.units().min(second.distance.units()) as SquaredDistance;
-    if square <= units * units {
-        Some(square)
-    } else {
-        None
-    }
 }

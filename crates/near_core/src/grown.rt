@@ -1,44 +1,51 @@
-//! Shapes with the distance within which others are sought, as layers hold them.
+//! Geometries with the distance within which others are sought, as layers hold them.
 
 ghost use Rattle.std.specs.Prelude.{◌≡◌, ◌≤◌};
 ghost use Rattle.distance_core.specs.Limits.{greatest_distance};
-ghost use Rattle.near_core.specs.Growth.{grown};
+ghost use Rattle.near_core.specs.Growth.{grown, grown_shape};
 
 use distance_core::Distance;
 use geom_core::{LIMIT, Shape, Span};
+use layer_core::Geometry;
 
-/// A shape, and the distance within which other shapes are near it.
+/// A geometry, and the distance within which other geometries are near it.
 ///
 /// A layer holds it by its box, grown on all sides by half of the distance, rounded up. So the
-/// boxes of two shapes that are at most the distance of each apart meet.
-#[derive(Clone, Copy, PartialEq, Eq)]
-pub struct GrownShape {
-    pub shape: Shape,
+/// boxes of two geometries that are at most the distance of each apart meet.
+#[derive(Drop)]
+pub struct Grown<G> {
+    pub geometry: G,
     pub distance: Distance,
 }
 
-impl layer_core::Geometry for GrownShape {
-    ghost use Rattle.geom_core.specs.declared.shape.Shape.{Shape};
-    ghost use Rattle.geom_core.specs.Shapes as shapes;
-    ghost use Rattle.near_core.specs.Growth as growth;
+impl<G: Geometry> Geometry for Grown<G> {
+    ghost use Rattle.near_core.specs.Growth.{grown_box};
 
-    ghost box_of = { growth.grown_box };
+    ghost box_of = { grown_box G.box_of };
 
-    ghost dim_of = { λ g. shapes.dim_of g.shape };
+    ghost dim_of = { λ g. G.dim_of g.geometry };
 
-    /// The shape, grown by half of the distance, as far as the plane goes.
+    #[inline(always)]
     fn bounds(&self) -> Shape {
-        let by = self.distance.units().div_ceil(2);
-        let x = grow(self.shape.x(), by);
-        let y = grow(self.shape.y(), by);
-        match Shape::new(x.lo, y.lo, x.hi, y.hi) {
-            Some(shape) => shape,
-            None => unreachable!(),
-        }
+        grow_shape(&self.geometry.bounds(), self.distance)
     }
 
+    #[inline(always)]
     fn dim(&self) -> u8 {
-        self.shape.dim()
+        self.geometry.dim()
+    }
+}
+
+/// The shape, grown by half of the distance, as far as the plane goes.
+fn grow_shape(shape: &Shape, distance: Distance) -> Shape
+    ensures { result ≡ grown_shape distance shape.now }
+{
+    let by = distance.units().div_ceil(2);
+    let x = grow(shape.x(), by);
+    let y = grow(shape.y(), by);
+    match Shape::new(x.lo, y.lo, x.hi, y.hi) {
+        Some(shape) => shape,
+        None => unreachable!(),
     }
 }
 

@@ -26,8 +26,11 @@ where
     C::Answer: Send + Drop,
     requires workers { (1 ≤ workers) × (workers ≤ MAX_WORKERS) }
     requires near { IsJoinList (IsPairIn (C.near condition.now)) pairs.now }
+    // of any condition, from the list that holds each near pair once and in order, that of the
+    // pairs that satisfy the condition
     ensures list { let stands = IsPairIn (C.stands condition.now) in
         IfOk result (λ refined. IsJoinList stands (pairs_of refined.items)) }
+    // each with an answer of its own
     ensures answers { let answers = C.answers condition.now in
         IfOk result (λ refined. All (HasAnswer answers) refined.items) }
 {

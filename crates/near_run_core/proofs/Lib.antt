@@ -1,6 +1,5 @@
 pub mod AmountLemmas
 pub mod AnyNearestLemmas
-pub mod AnyRunLemmas
 pub mod DistanceLemmas
 pub mod NearRunLemmas
 pub mod NearestLemmas

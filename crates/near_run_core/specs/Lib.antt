@@ -1,5 +1,3 @@
-pub mod AnyDistanceTexts
-pub mod AnyNearRuns
 pub mod AnyNearestRuns
 pub mod DistanceReports
 pub mod DistanceTexts

@@ -6,25 +6,17 @@ use pair_core::Options;
 use plane_core::Rings;
 use wkt_core::Scale;
 
-/// A join of two layers of boxes by distance, after edits.
+/// A join of two layers by distance, after edits.
 #[derive(Clone, Copy)]
 pub struct NearJob {
     /// The number of decimals that coordinates of the layers and the edits may have, and distances
     /// in the report.
     pub scale: Scale,
-    /// How far the shapes of a pair are apart at most, in units of the scale.
+    /// How far the geometries of a pair are apart at most, in units of the scale.
     pub distance: Distance,
-    /// Whether the shapes of a pair may share a point.
+    /// Whether the geometries of a pair may share a point.
     pub nearness: Nearness,
     pub options: Options,
-}
-
-/// The same of two layers of any geometry.
-#[derive(Clone, Copy)]
-pub struct AnyNearJob {
-    pub near: NearJob,
-    /// The rule for rings.
-    pub rings: Rings,
 }
 
 /// A search for the features of a layer of boxes that are nearest to each feature of another, after

@@ -23,6 +23,8 @@ pub fn nearest_of(
     shape: &Shape,
     query: &Query,
 ) -> Result<Vec<Neighbour>, AllocError>
+    // exactly the neighbours that are asked for, each once with its squared distance, the nearest
+    // first and then in layer order
     ensures { IfOk result (λ found. AreNearestIn query.now layer.now.list shape.now found.items) }
 {
     let mut queue = Queue::new(alloc);
@@ -56,6 +58,8 @@ pub fn nearest_boxes<G: Geometry>(
     shape: &Shape,
     query: &Query,
 ) -> Result<Vec<Neighbour>, AllocError>
+    // exactly the features of a layer of any geometry whose boxes are such neighbours of a shape,
+    // each once, the nearest first and then in layer order
     ensures { IfOk result
         (λ found. AreNearestBoxes G.box_of query.now layer.now.list shape.now found.items) }
 {

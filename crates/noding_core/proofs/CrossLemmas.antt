@@ -21,7 +21,7 @@ longer : (a b : ℤ) → a <ℤ b → pos 0 <ℤ (b -ℤ a)
 longer a b h = omega (arith, ints)
 
 -- over plain numbers: s parts of a number that isn't below and t of one that isn't
-mixed_columns : (s t a x w y z m : ℤ) → pos 0 ≤ℤ s → pos 0 ≤ℤ t → m ≡ s *ℤ w +ℤ t *ℤ z → (w *ℤ a) ≤ℤ x → (z *ℤ a) ≤ℤ y → (m *ℤ a) ≤ℤ (s *ℤ x +ℤ t *ℤ y)
+pub mixed_columns : (s t a x w y z m : ℤ) → pos 0 ≤ℤ s → pos 0 ≤ℤ t → m ≡ s *ℤ w +ℤ t *ℤ z → (w *ℤ a) ≤ℤ x → (z *ℤ a) ≤ℤ y → (m *ℤ a) ≤ℤ (s *ℤ x +ℤ t *ℤ y)
 mixed_columns s t a x w y z m hs ht e h k =
     let up = times_not_negative s (x -ℤ w *ℤ a) hs (apart _ _ h) in
     let down = times_not_negative t (y -ℤ z *ℤ a) ht (apart _ _ k) in
@@ -34,7 +34,7 @@ mixed_columns s t a x w y z m hs ht e h k =
     back : (m n k l : ℤ) → n -ℤ m ≡ k +ℤ l → pos 0 ≤ℤ k → pos 0 ≤ℤ l → m ≤ℤ n
     back m n k l e h g = omega (arith, ints)
 
-mixed_columns_below : (s t b x w y z m : ℤ) → pos 0 ≤ℤ s → pos 0 ≤ℤ t → m ≡ s *ℤ w +ℤ t *ℤ z → x ≤ℤ (w *ℤ b) → y ≤ℤ (z *ℤ b) → (s *ℤ x +ℤ t *ℤ y) ≤ℤ (m *ℤ b)
+pub mixed_columns_below : (s t b x w y z m : ℤ) → pos 0 ≤ℤ s → pos 0 ≤ℤ t → m ≡ s *ℤ w +ℤ t *ℤ z → x ≤ℤ (w *ℤ b) → y ≤ℤ (z *ℤ b) → (s *ℤ x +ℤ t *ℤ y) ≤ℤ (m *ℤ b)
 mixed_columns_below s t b x w y z m hs ht e h k =
     let up = times_not_negative s (w *ℤ b -ℤ x) hs (apart _ _ h) in
     let down = times_not_negative t (z *ℤ b -ℤ y) ht (apart _ _ k) in

@@ -16,6 +16,7 @@ pub mod MatrixLemmas
 pub mod MetLemmas
 pub mod NearLemmas
 pub mod NodeLemmas
+pub mod OnWayLemmas
 pub mod OffPartLemmas
 pub mod OpenLemmas
 pub mod OrderLemmas

@@ -8,4 +8,4 @@ mod nodes;
 
 pub use entries::{column_of, outside, raised, rank, row_of, transposed};
 pub use near::{push_few, push_near};
-pub use nodes::gather_nodes;
+pub use nodes::{gather_nodes, is_aside};

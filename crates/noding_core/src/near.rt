@@ -97,6 +97,7 @@ fn push_node(
 
 /// Adds the edges of a list whose boxes meet an edge's box.
 pub fn push_few(near: &mut Vec<Edge>, e: &Edge, edges: &[Edge]) -> Result<(), AllocError>
+    // as of `push_near`
     ensures kept { OnOk result (Extends near.old.items near.new.items) }
     ensures own { OnOk result (AddsAmong edges.now near.old.items near.new.items) }
     ensures found { let near = near.new.items in OnOk result (All (IsFound e.now near) edges.now) }
@@ -140,8 +141,11 @@ fn push_runs(
 
 /// Adds the edges of an outline whose boxes meet an edge's box.
 pub fn push_near(near: &mut Vec<Edge>, e: &Edge, outline: &IndexedOutline) -> Result<(), AllocError>
+    // the list begins as before
     ensures kept { OnOk result (Extends near.old.items near.new.items) }
+    // what was added are edges of the outline, or of the list
     ensures own { OnOk result (AddsAmong outline.now.edges.items near.old.items near.new.items) }
+    // each of these is in it, or its box doesn't meet that of the edge
     ensures found { let near = near.new.items in
         OnOk result (All (IsFound e.now near) outline.now.edges.items) }
 {

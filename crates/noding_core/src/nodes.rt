@@ -77,7 +77,9 @@ fn is_same_edge(e: &Edge, f: &Edge) -> bool
 
 /// Whether another edge lies strictly on one side of the edge's line, so that they share no point.
 #[inline]
-fn is_aside(e: &Edge, f: &Edge) -> bool
+pub fn is_aside(e: &Edge, f: &Edge) -> bool
+    // both ends of the second edge lie strictly to the left of the line of the first, or both
+    // strictly to the right
     ensures { result ≡ is_aside e.now f.now }
 {
     let first = e.side_of(&f.a);

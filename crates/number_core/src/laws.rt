@@ -12,9 +12,12 @@ ghost use Rattle.number_core.specs.Values.{nearest, SpellsNumber};
 /// is read where a text goes on so that the number ends.
 #[tactic(auto, using(crate::proofs::FrontLemmas::numbers_read))]
 pub fn number_law()
+    // what is read there is a number of the grammar
     ensures grammatical { (scale : Scale) (text : List ℕ) (n : Numeral) (rest : List ℕ)
         → number_at scale text ≡ Some (n, rest)
         → (front : List ℕ) × Number scale n front × (text ≡ front ++ rest) }
+    // each number of the grammar is read, unless the text after it begins with a digit, a dot or
+    // the letter of an exponent
     ensures read { (scale : Scale) (n : Numeral) (front rest : List ℕ)
         → Number scale n front → Ends rest → number_at scale (front ++ rest) ≡ Some (n, rest) }
 {}
@@ -22,6 +25,7 @@ pub fn number_law()
 /// The text that is printed for a coordinate spells it, with rounding and without.
 #[tactic(auto, using(crate::proofs::PrintedLemmas::number_spelled))]
 pub fn printed_law()
+    // the canonical spelling of a coordinate spells it
     ensures spells { (scale : Scale) (units : ℤ)
         → IsCoordinate units → SpellsNumber scale (number scale units) units }
 {}
@@ -30,6 +34,8 @@ pub fn printed_law()
 /// up.
 #[tactic(auto, using(crate::proofs::RoundedLemmas::nearest_by))]
 pub fn nearest_law()
+    // the whole number that stands for a quotient is at most one half off, and a half is rounded
+    // up; the sign is put before it, so a negative half is rounded away from zero
     ensures above { (a b : ℕ) → 0 < b → 2 * (nearest a b * b) ≤ 2 * a + b }
     ensures below { (a b : ℕ) → 0 < b → 2 * a < 2 * (nearest a b * b) + b }
 {}

@@ -315,6 +315,9 @@ pub fn read_number(text: &[u8], scale: Scale) -> Option<(ReadNumber, &[u8])>
 #[inline(always)]
 pub fn read_number_to(text: &[u8], scale: Scale, most: u64) -> Option<(ReadNumber, &[u8])>
     requires { most ≤ greatest_range }
+    // the number at the start of the text, its value in units of the scale if its absolute value is
+    // at most that of the range, whether it is whole, and the text after it; or none if the text
+    // begins with no number
     ensures { answer_view result ≡ number_answer most scale (number_at scale text.now) }
 {
     let plain = read_plain(text, scale);

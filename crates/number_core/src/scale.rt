@@ -35,8 +35,11 @@ impl Scale {
     /// The scale with this number of decimals, or `None` if it is greater than 6. A number with a
     /// digit other than 0 after them is refused.
     pub fn new(digits: u32) -> Option<Scale>
+        // Some exactly for 0 to 6 decimals
         ensures some { IsSome result ↔ (digits ≤ most_digits) }
+        // it has these
         ensures digits { IfSome result (λ scale. digits_of scale ≡ digits) }
+        // it doesn't round
         ensures exact { IfSome result (λ scale. rounding_of scale ≡ Exact) }
     {
         if digits <= u32::from(MOST_DIGITS) {
@@ -51,7 +54,9 @@ impl Scale {
 
     /// The scale with as many decimals, at which numbers are read as `rounding` says.
     pub fn with_rounding(self, rounding: Rounding) -> Scale
+        // as many decimals
         ensures digits { digits_of result ≡ digits_of self }
+        // this rounding
         ensures rounding { rounding_of result ≡ rounding }
     {
         Scale {
@@ -62,7 +67,9 @@ impl Scale {
 
     /// The number of decimals of a coordinate.
     pub fn digits(&self) -> u8
+        // how many decimals
         ensures digits { result ≡ digits_of self.now }
+        // at most 6
         ensures few { result ≤ most_digits }
     {
         self.digits

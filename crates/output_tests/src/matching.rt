@@ -8,7 +8,7 @@ use arrangement_core::relate;
 use layer_core::Layer;
 use refine_core::Refined;
 use relation_core::Matrix;
-use report_core::report_texts;
+use report_core::{MatrixLetters, ReportForm, report_by};
 use std::alloc::Global;
 use std::thread::Threads;
 
@@ -56,7 +56,11 @@ pub(crate) fn report_of<R: AllocGlobal + Threads + Sync>(
     workers: u32,
 ) -> Option<Vec<u8>> {
     let matches = matches_of(rt.alloc(), left, right, pairs)?;
-    let texts = report_texts(rt, left, right, &matches, workers).ok()?;
+    let form = ReportForm {
+        field: &MatrixLetters,
+        workers,
+    };
+    let texts = report_by(rt, &form, left, right, matches.as_slice()).ok()?;
     let mut report = Vec::new(rt.alloc());
     for text in &texts {
         report.extend_from_slice(text).ok()?;

@@ -39,7 +39,9 @@ impl OptionFault {
 
     /// The text of the fault, in the words of the command line.
     pub fn text(self) -> &'static str
+        // the words of the fault
         ensures text { result.now ≡ option_text self }
+        // at most 50 bytes
         ensures short { length result.now ≤ 50 }
     {
         match self {
@@ -60,11 +62,13 @@ impl Options {
     /// # Errors
     /// The first of `Workers`, `Batch` and `Cut` whose number is out of range.
     pub fn new(workers: u32, batch: u32, cut: u32) -> Result<Options, OptionFault>
+        // each fault exactly for a number out of its range, in this order
         ensures workers { IsErrOf result OptionFault.Workers ↔ ¬ (AreWorkers workers) }
         ensures batch { IsErrOf result OptionFault.Batch
             ↔ (AreWorkers workers × ¬ (IsBatch batch)) }
         ensures cut { IsErrOf result OptionFault.Cut
             ↔ (AreWorkers workers × IsBatch batch × ¬ (IsCut cut)) }
+        // the three numbers
         ensures ok { IfOk result (λ o.
             (workers_of o ≡ workers) × (batch_of o ≡ batch) × (cut_of o ≡ cut)) }
     {

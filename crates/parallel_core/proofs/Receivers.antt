@@ -1,20 +1,39 @@
 -- The messages taken of an outlet, one after another.
-use Rattle.std.proofs.Common.{◌≡◌, ℕ, ◌<◌, ◌⊎◌, ◌||◌, inl, inr, Bool, true, false, cond, eqb, Some, List, [], ◌∷◌, ◌++◌, length, map, slice_get, refl, sym, ap}
-use Rattle.std.proofs.Common.{◌∙◌}
+use Rattle.std.proofs.Common.{◌≡◌, ℕ, ◌<◌, ◌⊎◌, ◌||◌, inl, inr, Bool, true, false, cond, eqb, Some, List, [], ◌∷◌, ◌++◌, length, replicate, map, slice_get, refl, sym, ap}
+use Rattle.std.proofs.Common.{arith, ◌∙◌}
 use Rattle.std.proofs.lemmas.Bool.Decides.{eqb_tells}
-use Rattle.std.proofs.lemmas.List.{append-nil, map-append}
-use Rattle.std.proofs.lemmas.List.Elements.{All-push, filter-append}
+use Rattle.std.proofs.lemmas.Bool.{false≢true}
+use Rattle.std.proofs.lemmas.Option.{get_or_from_slice_get, slice_get_within}
+use Rattle.std.proofs.lemmas.List.{append-nil, get_or-replicate, length-replicate, map-append}
+use Rattle.std.proofs.lemmas.List.Elements.{All-nil, All-push, filter-append}
 use Rattle.std.proofs.lemmas.List.Folds.{list_any-append}
 use Rattle.deliver_core.specs.declared.message.Message.{Message}
 use Rattle.deliver_core.specs.declared.outlet.Outlet.{Outlet}
 use Rattle.deliver_core.specs.Byes.{is_bye, has_bye}
-use Rattle.deliver_core.specs.OutletCalls.{IsAfterTaking}
+use Rattle.deliver_core.specs.OutletCalls.{IsAfterTaking, IsFreshTap}
 use Rattle.deliver_core.specs.Outlets.{of_port}
 use Rattle.deliver_core.specs.Ports.{taken_by, port_count, IsTapOf}
 use Rattle.deliver_core.specs.Scripts.{Content, content_of}
 use Rattle.parallel_core.specs.declared.receiver.Receiver.{Receiver}
 use Rattle.parallel_core.specs.Receivers.{ReceivesFrom, Continues}
 use Rattle.parallel_core.specs.FusedCollectors.{HasTakenIn}
+
+-- of a fresh tap nothing was taken
+pub receives_nothing : (outlet : Outlet) (ports : ℕ) (g : Receiver) → IsFreshTap outlet ports g.tap → g.ended.items ≡ replicate ports false
+    → HasTakenIn [] g.fused.collector g.fused.accepted → ReceivesFrom outlet g
+receives_nothing outlet ports g fresh none empty = record {
+  tap = fresh.belongs;
+  known = rw fresh.idle (All-nil (λ (m : Message). m.port < port_count g.tap));
+  ports = ap length none ∙ length-replicate ports false ∙ sym fresh.count;
+  ended = λ port some.
+      let all = replicate ports false in
+      let there : slice_get all port ≡ Some true = ap (λ (l : List Bool). slice_get l port) (sym none) ∙ some in
+      let inside = slice_get_within all port true there in
+      let is = get_or_from_slice_get all port true false there in
+      let not = get_or-replicate ports port false false (omega (arith, inside, length-replicate ports false)) in
+      absurd (false≢true (sym not ∙ is));
+  taken_in = rw fresh.idle empty;
+}
 
 pub continues_here : (outlet : Outlet) (g : Receiver) → ReceivesFrom outlet g → Continues outlet g g
 continues_here outlet g h = record { receives = h; ports = refl; tasks = refl; final = λ port bye. refl }
@@ -26,8 +45,6 @@ continues_on outlet a b c one two = record {
   tasks = two.tasks ∙ one.tasks;
   final = λ port bye. two.final port (ap has_bye (one.final port bye) ∙ bye) ∙ one.final port bye;
 }
-
-pub ruleset goes_on = (continues_here, continues_on)
 
 -- the same was taken
 pub continues_same : (outlet : Outlet) (a b : Receiver) → ReceivesFrom outlet a → IsTapOf outlet b.tap → port_count b.tap ≡ port_count a.tap

@@ -73,8 +73,6 @@ module _ (relation : Relation) (plan : List (Node × Node)) (size : ℕ) where
     says = says.2;
   }
 
-  pub ruleset one_task = (says_nothing, says_one, says_part_of_one)
-
   -- the contents that a port has sent, after it sends more
   pub said_more : (drawn drawn' ms : List ℕ) (old new : Port) → SaysScripts relation plan size ms old new → drawn' ≡ drawn ++ ms
       → AreScripts relation plan size drawn (said_by old) → AreScripts relation plan size drawn' (said_by new)
@@ -119,9 +117,6 @@ seat_gains board old new number after so_far own = record {
   own = own;
   below = rw after.drawn (All-push (λ n. n < board.tasks) old.drawn number so_far.below after.task);
 }
-
--- of a worker that stops at a task
-pub ruleset stopped = (seat_gains, said_part)
 
 pub stays_on : (outlet : Outlet) (a b c : Port) → StaysOpen outlet a b → StaysOpen outlet b c → StaysOpen outlet a c
 stays_on outlet a b c one two = record { ready = two.ready; index = two.index ∙ one.index }

@@ -30,8 +30,12 @@ pub fn run_workers<R: AllocGlobal + Threads + Wait + Sync, P: Rows + Sync>(
     relation: &JoinRelation,
     options: &Options,
 ) -> Result<Outcome, JoinFault>
+    // over every schedule of 1 to 16 workers, rows of all tasks of the plan, marks that are a
+    // closed legal history with each task's script in batches of the options' size, and the pairs
+    // of all rows with multiplicity, ascending
     ensures ok { let size = batch_of options.now in
         IfOk result (IsDelivered (relation_of relation.now) (P.tasks rows.now) size) }
+    // no fault but `Memory` and `NoThread`
     ensures err { IfErr result IsWant }
 {
     if options.workers() == 1 {

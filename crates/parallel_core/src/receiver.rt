@@ -49,7 +49,6 @@ impl Receiver {
     }
 
     /// Takes messages until the Bye of this port was taken.
-    #[tactic(auto, using(crate::proofs::Receivers::goes_on))]
     pub(crate) fn take_until_bye<R: Wait>(&mut self, rt: &R, outlet: &Outlet, port: u32)
         requires receives { ReceivesFrom outlet.now self.old }
         requires port { port < port_count self.old.tap }
@@ -71,7 +70,6 @@ impl Receiver {
     }
 
     /// Relates the messages taken of a port to those that it sent.
-    #[tactic(auto, using(crate::proofs::Receivers::continues_same))]
     pub(crate) fn meet<R: Wait>(&mut self, rt: &R, outlet: &Outlet, port: Port)
         requires receives { ReceivesFrom outlet.now self.old }
         requires port { IsReadyToMeet outlet.now (index_of port) port }

@@ -18,7 +18,9 @@ pub trait Rows {
 
     /// The number of tasks.
     fn len(&self) -> u32
+        // of each plan that workers take, the number of tasks
         ensures len { result ≡ length (tasks self.now) }
+        // at most 65,536
         ensures few { result ≤ most_tasks };
 
     /// The row of the task with this number.

@@ -13,7 +13,6 @@ use std::sync::Wait;
 
 /// Sends the script of a task: its row in batches of the job's size, the last of which is what is
 /// left, and then the end. Where memory is refused, it stops after a whole message.
-#[tactic(auto, using(crate::proofs::Scripts::says_part))]
 pub(crate) fn send_script<R: Wait, P>(
     rt: &R,
     job: &Job<'_, P>,
@@ -40,7 +39,6 @@ pub(crate) fn send_script<R: Wait, P>(
 }
 
 /// Sends a message of a task, which is no Bye.
-#[tactic(auto, using(crate::proofs::Scripts::says_one))]
 fn send<R: Wait>(rt: &R, outlet: &Outlet, port: &mut Port, task: u32, body: Body)
     requires port { IsOpenPort outlet.now port.old }
     requires body { is_bye_body body ≡ false }

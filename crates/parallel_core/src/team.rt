@@ -46,7 +46,6 @@ impl Team {
     }
 
     /// Takes the seat and the port of the next worker, if there is one.
-    #[tactic(auto, using(crate::proofs::Teams::is_beside))]
     fn next(&mut self) -> Option<(BoardSeat, Port)>
         requires { length self.old.seats.items ≡ length self.old.ports.items }
         ensures before { IsAsBefore self.old self.new }

@@ -62,18 +62,22 @@ pub fn worker<R: Wait, P: Rows>(rt: &R, job: &Job<'_, P>, seat: BoardSeat, port:
     requires tasks { job.now.board.now.tasks ≡ length (P.tasks job.now.rows.now) }
     requires seat { seat ≡ fresh_seat job.now.board.now }
     requires port { IsFreshPort job.now.outlet.now port }
+    // its port sent the scripts of the tasks that its seat drew, in that order, and a bye of true,
+    // or a prefix of them by whole messages and a bye of false
     ensures says { let relation = relation_of job.now.relation.now in
         let tasks = P.tasks job.now.rows.now in let drawn = result.seat.drawn in
         WorkerSays relation tasks job.now.batch drawn result.ok (said_by result.port) }
+    // each number drawn is that of a task
     ensures seat { IsSeatBelow job.now.board.now result.seat }
+    // where it is ok, its seat has met the end
     ensures done { result.ok ≡ true → result.seat.done ≡ true }
+    // its port has said bye and may be met
     ensures port { IsReadyToMeet job.now.outlet.now (index_of port) result.port }
 {
     job.work(rt, seat, port)
 }
 
 /// Processes tasks until the seat meets the end of the numbers.
-#[tactic(auto, using(crate::proofs::Workers::stopped))]
 fn process_tasks<R: Wait, P: Rows>(
     rt: &R,
     job: &Job<'_, P>,
@@ -103,7 +107,6 @@ fn process_tasks<R: Wait, P: Rows>(
 }
 
 /// Sends the script of one task.
-#[tactic(auto, using(crate::proofs::Workers::one_task))]
 fn send_task<R: Wait, P: Rows>(
     rt: &R,
     job: &Job<'_, P>,

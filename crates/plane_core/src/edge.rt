@@ -55,7 +55,9 @@ impl Edge {
     /// to the left of the edge, seen from `a` to `b`, and 0 if it is on its line.
     #[inline]
     pub fn side_of(&self, v: &Vertex) -> i128
+        // the cross product of the edge and the way to a vertex, and of the directions of two edges
         ensures value { result ≡ side self.now (at v.now) }
+        // its size
         ensures bound { nat_abs result ≤ greatest_turn }
     {
         let run = self.a.run_to(&self.b);
@@ -68,6 +70,7 @@ impl Edge {
     /// The cross product of the directions of two edges: 0 if they are parallel.
     #[inline]
     pub fn turn_to(&self, other: &Edge) -> i128
+        // as of `Edge::side_of`
         ensures value { result ≡ turn_of self.now other.now }
         ensures bound { nat_abs result ≤ greatest_turn }
     {

@@ -180,7 +180,10 @@ impl Geometry {
     /// vertices, and consecutive ones differ; a ring is a polyline whose last vertex equals its
     /// first. There must be at least one path.
     pub fn new(kind: Kind, ends: Vec<u32>, vertices: Vec<Vertex>) -> Option<Geometry>
+        // Some exactly for points, for polylines without two equal vertices in a row, and for rings
+        // that end where they begin as well
         ensures some { IsSome result ↔ IsStored kind ends.items vertices.items }
+        // the geometry is that of these vertices
         ensures figure { IfSome result (λ g. g ≡ stored_figure kind ends.items vertices.items) }
     {
         if is_stored(kind, &ends, &vertices) {
@@ -231,7 +234,9 @@ impl Geometry {
     /// The smallest shape that contains all vertices, from their least to their greatest
     /// coordinates.
     pub fn bounds(&self) -> Shape
+        // a shape that contains all vertices
         ensures holds { All (HoldsVertex result) (vertices_of self.now) }
+        // each other that does so contains it
         ensures least { (s : Shape) → All (HoldsVertex s) (vertices_of self.now) → IsIn result s }
     {
         envelope_of(&self.vertices)
@@ -239,7 +244,9 @@ impl Geometry {
 
     /// The edges of the geometry, with its points or the ends of its polylines.
     pub fn outline(&self, alloc: Global) -> Result<Outline, AllocError>
+        // its edges, and its points or the ends of its polylines
         ensures outline { IfOk result (IsOutlineOf self.now) }
+        // it is a geometry
         ensures geometry { OnOk result (IsGeometry self.now) }
     {
         match self.kind {

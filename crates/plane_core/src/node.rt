@@ -88,7 +88,9 @@ impl Node {
 
     /// The point that two edges share, if they aren't parallel and share one.
     pub fn meeting(e: &Edge, f: &Edge) -> Option<Node>
+        // the point that two edges share which aren't parallel
         ensures some { IfSome result (λ n. IsMeeting e.now f.now (node_point n)) }
+        // they share none, or are parallel
         ensures none { IfNone result (HaveNoMeeting e.now f.now) }
     {
         if do_cross(e, f) {

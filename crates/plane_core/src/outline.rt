@@ -181,7 +181,10 @@ impl Outline {
 
     /// The part in which a point lies, and the part just above it.
     pub fn standing_at(&self, p: &Place) -> Standing
+        // the part of the geometry in which a point lies
         ensures part { result.part ≡ outline_part self.now (point_of p.now) }
+        // the part of all points just above it; by all edges and ends, or by that scan and that
+        // number
         ensures above { result.above ≡ outline_above self.now (point_of p.now) }
     {
         self.standing_by(self.scan_at(p), self.count_at(p))
@@ -190,6 +193,7 @@ impl Outline {
     /// The same, from a scan of all edges at the point and the number of the points, or of the ends
     /// of polylines, that equal it.
     pub fn standing_by(&self, scan: Scan, here: usize) -> Standing
+        // as of `Outline::standing_at`
         ensures part { (p : Point) → IsScan self.now.edges.items p scan
             → here ≡ count_at self.now.ends.items p → result.part ≡ outline_part self.now p }
         ensures above { (p : Point) → IsScan self.now.edges.items p scan

@@ -19,7 +19,9 @@ impl Vertex {
 
     /// The point `(x, y)`, or `None` if a coordinate is out of range.
     pub fn new(x: i64, y: i64) -> Option<Vertex>
+        // Some exactly for coordinates in range
         ensures some { IsSome result ↔ (IsCoordinate x × IsCoordinate y) }
+        // the vertex has these
         ensures x { IfSome result (λ v. v.x ≡ x) }
         ensures y { IfSome result (λ v. v.y ≡ y) }
     {

@@ -45,7 +45,7 @@ impl<'a, G: Geometry, P, M: Preparation<G, P>> Model for PreparedLayer<'a, G, P,
 
     ghost view = { λ p. p.layer.now.list };
 
-    ghost invariant = { λ p. ArePrepared M.form_of p.layer.now.list p.features.items };
+    ghost invariant = { λ p. ArePrepared M.is_form p.layer.now.list p.features.items };
 }
 
 impl<'a, G: Geometry, P: Drop, M: Prepare<'a, G, P>> PreparedLayer<'a, G, P, M> {
@@ -65,6 +65,9 @@ impl<'a, G: Geometry, P: Drop, M: Prepare<'a, G, P>> PreparedLayer<'a, G, P, M> 
         ensures { IfOk result (λ p. p ≡ layer.now.list) }
     {
         let large = large_features::<G, P, M>(alloc, layer, LARGE)?;
+        if large.is_empty() {
+            return PreparedLayer::with_prepared(alloc, layer, &large);
+        }
         let often = met_often(alloc, &large, pairs, side)?;
         PreparedLayer::with_prepared(alloc, layer, &often)
     }
@@ -124,7 +127,7 @@ impl<'a, G: Geometry, P, M: Preparation<G, P>> PreparedLayer<'a, G, P, M> {
 
     /// The prepared geometry of the feature with this number, if it is prepared.
     pub fn prepared(&self, number: u32) -> Option<&P>
-        ensures { IfSome result (λ p. FormIs M.form_of self.now number p.now) }
+        ensures { IfSome result (λ p. FormIs M.is_form self.now number p.now) }
     {
         let place = *self.places.get(number as usize)?;
         let feature = self.features.get(place as usize)?;
@@ -157,7 +160,7 @@ fn prepared_features<'a, G: Geometry, P: Drop, M: Prepare<'a, G, P>>(
     layer: &'a Layer<G>,
     numbers: &[u32],
 ) -> Result<Vec<PreparedFeature<P>>, AllocError>
-    ensures { IfOk result (λ features. ArePrepared M.form_of layer.now.list features.items) }
+    ensures { IfOk result (λ features. ArePrepared M.is_form layer.now.list features.items) }
 {
     let mut features = Vec::new(alloc);
     for number in numbers {
@@ -173,8 +176,8 @@ fn push_prepared<'a, G: Geometry, P: Drop, M: Prepare<'a, G, P>>(
     layer: &'a Layer<G>,
     number: u32,
 ) -> Result<(), AllocError>
-    requires { ArePrepared M.form_of layer.now.list features.old.items }
-    ensures { OnOk result (ArePrepared M.form_of layer.now.list features.new.items) }
+    requires { ArePrepared M.is_form layer.now.list features.old.items }
+    ensures { OnOk result (ArePrepared M.is_form layer.now.list features.new.items) }
 {
     if let Some(shape) = layer.shape(number) {
         let geometry = M::prepare(alloc, shape)?;

@@ -1,11 +1,11 @@
 -- Parts as they are collected, put into rows and joined.
 use Rattle.std.proofs.Common.{◌≡◌, ◌≢◌, ℕ, ◌<◌, ◌≤◌, List, [], ◌∷◌, ◌++◌}
-use Rattle.std.proofs.Common.{All, Contains, length, get_or, set, refl, sym, ap, subst, arith, ◌∙◌, ⊎_elim}
+use Rattle.std.proofs.Common.{All, Contains, length, get_or, set, refl, sym, ap, subst, arith, append-nil, ◌∙◌, ⊎_elim}
 use Rattle.std.specs.Global.{Global}
 use Rattle.std.specs.List.{flat_map}
 use Rattle.std.specs.declared.vec.Vec.{Vec}
 use Rattle.std.proofs.lemmas.Bool.{cases_eq}
-use Rattle.std.proofs.lemmas.List.{flat_map_more, length_push, get_or-set_same, get_or-set_other, map-append}
+use Rattle.std.proofs.lemmas.List.{flat_map_more, length_push, get_or-set_same, get_or-set_other, map-append, nil_from_length}
 use Rattle.std.proofs.lemmas.List.Elements.{All-contains, All-push, All-same, Contains-push, Contains-push_cases, Contains-append_left, Contains-append_right}
 use Rattle.refine_core.specs.declared.refined.Refined.{Refined}
 use Rattle.refine_core.specs.declared.worker.Part.{Part}
@@ -21,6 +21,11 @@ given_more f old new xs x ys so_far grown is =
 pub item_of : {X : Type 0} (P : X → Type 0) (all front rest : List X) (x : X) → front ++ x ∷ rest ≡ all → All P all → P x
 item_of P all front rest x is every =
     All-contains P all x every (subst (λ xs. Contains xs x) is (Contains-append_right front (x ∷ rest) x (0, omega arith, refl)))
+
+-- a list that an iterator has yielded whole
+pub all_yielded : {X : Type 0} (yielded rest all : List X) → yielded ++ rest ≡ all → length rest ≤ 0 → yielded ≡ all
+all_yielded yielded rest all is ended =
+    sym (append-nil yielded) ∙ ap (λ r. yielded ++ r) (sym (nil_from_length rest (omega (arith, ended)))) ∙ is
 
 -- the length of an ascending list of numbers is at most a number that they are all less than
 pub few_more : (drawn : List ℕ) (n : ℕ) → ((m : ℕ) → All (λ x. x < m) drawn → length drawn ≤ m) → All (λ x. x < n) drawn

@@ -32,6 +32,8 @@ pub trait Condition {
         right: u32,
     ) -> Result<Option<Self::Answer>, AllocError>
         requires { near self.now left right }
+        // an answer for a near pair that satisfies the condition, and none for one that doesn't; by
+        // the law `stands_near` of each condition, each pair that satisfies it is near
         ensures { let condition = self.now in
             IfOk result (IsDecision (stands condition) (answers condition) (left, right)) };
 

@@ -9,6 +9,7 @@ use crate::condition::Condition;
 /// Law of filter and refinement, for any condition: if a list contains each near pair once and no
 /// other, then the pairs of it that satisfy the condition are all such pairs, each once.
 pub fn refinement_law<C: Condition>(condition: &C)
+    // the same of whatever is the refinement of a list, for any condition
     ensures each_once { let stands = C.stands condition.now in
         let answers = C.answers condition.now in
         (pairs : List (ℕ × ℕ)) (refined : List (Refined C.Answer))

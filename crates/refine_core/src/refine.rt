@@ -38,12 +38,18 @@ where
     C::Answer: Send + Drop,
     requires workers { (1 ≤ workers) × (workers ≤ MAX_WORKERS) }
     requires near { All (IsPairIn (C.near condition.now)) pairs.now }
+    // of any list of near pairs, for any number of workers, whichever chunks each of them draws:
+    // the pairs that satisfy the condition, all of them and no other, in the list's order, each
+    // with an answer of its own
     ensures refined { let stands = C.stands condition.now in
         let answers = C.answers condition.now in
         IfOk result (λ refined. AreRefined stands answers pairs.now refined.items) }
+    // where the list holds each near pair once and no other, each pair that satisfies the condition
+    // once and no other
     ensures each_once { HoldsEachOnce (C.near condition.now) pairs.now
         → let stands = C.stands condition.now in
         IfOk result (λ refined. HoldsEachOnce stands (pairs_of refined.items)) }
+    // a list in any order, such as the ascending one, stays in it
     ensures in_order { (before : ℕ × ℕ → ℕ × ℕ → Bool) → IsInOrder before pairs.now
         → IfOk result (λ refined. IsInOrder before (pairs_of refined.items)) }
 {

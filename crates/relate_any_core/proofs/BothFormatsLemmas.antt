@@ -1,6 +1,6 @@
 -- The points of a text form a shape and a geometry with the same parts.
 use Rattle.std.proofs.Common.{◌≡◌, ◌≤◌, ◌<◌, arith, refl, ap, ap₂, ◌∙◌, sym, inl, inr, List, [], ◌∷◌, ◌++◌, map, take, drop, length, get_or, length-append, subst, true, false}
-use Rattle.std.specs.Prelude.{ℤ, ℕ, ◌+◌, ◌<ℤ◌, ◌⊎◌, Bool, ◌&&◌, All}
+use Rattle.std.specs.Prelude.{ℤ, ℕ, ◌+◌, ◌<ℤ◌, ◌⊎◌, Bool, ◌&&◌, All, Option, Some, Ok}
 use Rattle.std.specs.List.{filter}
 use Rattle.std.proofs.lemmas.Int.{ints}
 use Rattle.std.proofs.lemmas.List.{append-nil, append_assoc, map-append, take-append-drop}
@@ -25,7 +25,9 @@ use Rattle.wkt_core.specs.Spelling.{Forms, positions}
 use Rattle.wkt_core.proofs.FormLemmas.{rectangle_corners}
 use Rattle.wkt_core.proofs.RunLemmas.{run_heads}
 use Rattle.wkt_any_core.specs.Drawing.{position_of, positions_of, kind_for, skips_dots, is_dot, is_kept, drawn, Draws}
-use Rattle.wkt_any_core.proofs.TextLemmas.{one_raw_form}
+use Rattle.wkt_any_core.specs.Readings.{ReadsAs}
+use Rattle.wkt_any_core.specs.Spelling.{SaysText}
+use Rattle.geometry_text_core.proofs.TextLemmas.{says_one}
 use Rattle.agreement_core.specs.Agreement.{HasPartsOf}
 use Rattle.agreement_core.specs.BoxFigures.{AreEndsOf, AreOpposite, AreLevelFirst, AreUprightFirst, LiesWithin, GoesStraight, RunsAlong, IsRingOf, RunsAround}
 use Rattle.agreement_core.proofs.AgreementLemmas.{agreement}
@@ -337,11 +339,19 @@ lists_parts rings keyword (ps ∷ qs ∷ lists) s g box any = elim box [ ]
 pub text_parts : (scale : Scale) (rings : Rings) (text : List ℕ) (s : Shape) (g : Figure) → ReadsBoth scale rings text s g → HasPartsOf s g
 text_parts scale rings text s g both =
     let box = both.shape in
-    let any = both.geometry.shown in
-    let same = one_raw_form scale text (record { is_multi = false; keyword = box.keyword }) any.heading box.lists any.lists box.raw any.raw in
-    lists_parts rings box.keyword (positions scale box.lists) s g box.forms
-    (subst (λ (keyword : Keyword). Draws rings keyword (positions scale box.lists) g) (sym (ap (λ h. h.keyword) same.0))
-    (subst (λ lists. Draws rings any.heading.keyword (positions scale lists) g) (sym same.1) any.draws))
+    let any = both.geometry in
+    let places : Option (List (List Position)) = Some (positions scale box.lists) in
+    let said : SaysText scale text box.keyword places = record {
+      heading = record { is_multi = false; keyword = box.keyword };
+      lists = box.lists;
+      raw = box.raw;
+      kind = refl;
+      placed = (box.good, refl);
+    } in
+    let same = says_one scale text box.keyword any.keyword places any.places (inl (inl said)) any.says in
+    let reads = subst (λ (k : Keyword). ReadsAs rings k places (Ok g)) (sym same.0)
+    (subst (λ (x : Option (List (List Position))). ReadsAs rings any.keyword x (Ok g)) (sym same.1) any.reads) in
+    lists_parts rings box.keyword (positions scale box.lists) s g box.forms reads.0
 
 pub text_matrix : (scale : Scale) (rings : Rings) (t u : List ℕ) (a b : Shape) (g h : Figure) (m : Matrix) → ReadsBoth scale rings t a g → ReadsBoth scale rings u b h
     → IsMatrix a b m → IsPlaneMatrix g h m

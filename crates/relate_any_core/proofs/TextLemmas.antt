@@ -4,7 +4,7 @@ use Rattle.plane_core.specs.Figures.{Figure}
 use Rattle.number_core.specs.declared.scale.Scale.{Scale}
 use Rattle.wkt_any_core.specs.declared.fault.GeometryFault.{GeometryFault}
 use Rattle.plane_core.specs.declared.rings.Rings.{Rings}
-use Rattle.wkt_any_core.specs.Readings.{Reads}
+use Rattle.geometry_text_core.specs.Texts.{Reads}
 use Rattle.relate_any_core.specs.declared.texts.TextFault.{TextFault}
 use Rattle.relate_any_core.specs.declared.texts.TextFault.TheVariants.{First, Second}
 use Rattle.relate_any_core.specs.TextMatrices.{HasTextFault}

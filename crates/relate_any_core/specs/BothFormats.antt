@@ -5,7 +5,7 @@ use Rattle.plane_core.specs.Figures.{Figure}
 use Rattle.plane_core.specs.declared.rings.Rings.{Rings}
 use Rattle.number_core.specs.declared.scale.Scale.{Scale}
 use Rattle.wkt_core.specs.Readings.{Reads as ReadsBox}
-use Rattle.wkt_any_core.specs.Readings.{Reads}
+use Rattle.geometry_text_core.specs.Texts.{Reads}
 
 -- the text spells this shape in the one format, and this geometry in the other
 pub record ReadsBoth (scale : Scale) (rings : Rings) (text : List ℕ) (s : Shape) (g : Figure)

@@ -6,7 +6,7 @@ use Rattle.plane_core.specs.ProperRings.{HasProperRings}
 use Rattle.number_core.specs.declared.scale.Scale.{Scale}
 use Rattle.plane_core.specs.declared.rings.Rings.{Rings}
 use Rattle.plane_core.specs.declared.rings.Rings.TheVariants.{Proper, EvenOdd}
-use Rattle.wkt_any_core.specs.Readings.{Reads}
+use Rattle.geometry_text_core.specs.Texts.{Reads}
 use Rattle.relate_any_core.specs.declared.texts.Related.{Related}
 use Rattle.relate_any_core.specs.declared.texts.TextFault.{TextFault}
 use Rattle.relate_any_core.specs.declared.texts.TextFault.TheVariants.{First, Second}

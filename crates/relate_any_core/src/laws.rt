@@ -15,8 +15,12 @@ ghost use Rattle.relate_any_core.specs.BothFormats.{ReadsBoth};
 /// boundary and exterior as both, and two such texts have one matrix: that of the shapes by cells
 /// of the grid is that of the geometries by points of the plane.
 pub fn texts_law()
+    // a text that is read as a box and as any geometry has the same interior, boundary and exterior
+    // as both
     ensures same_parts { (scale : Scale) (rings : Rings) (text : List ℕ) (s : Shape) (g : Figure)
         → ReadsBoth scale rings text s g → HasPartsOf s g }
+    // two such texts have one matrix: that of the boxes by cells is that of the geometries by
+    // points of the plane
     ensures one_matrix { (scale : Scale) (rings : Rings) (t u : List ℕ) (a b : Shape)
         (g h : Figure) (m : Matrix) → ReadsBoth scale rings t a g → ReadsBoth scale rings u b h
         → IsMatrix a b m → IsPlaneMatrix g h m }

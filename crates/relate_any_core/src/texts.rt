@@ -5,10 +5,11 @@ ghost use Rattle.relate_any_core.specs.TextMatrices.{HasTextFault, IsRelated};
 
 use crate::improper::{Improper, is_improper};
 use arrangement_core::relate;
+use geometry_text_core::read;
 use relation_core::Matrix;
 use std::alloc::{AllocError, Global};
 use thiserror::Error;
-use wkt_any_core::{GeometryFault, Rings, read};
+use wkt_any_core::{GeometryFault, Rings};
 use wkt_core::Scale;
 
 /// The matrix of two geometries, and which of them have improper rings.
@@ -42,8 +43,11 @@ pub fn relate_texts(
     a: &[u8],
     b: &[u8],
 ) -> Result<Result<Related, TextFault>, AllocError>
+    // the matrix, by points of the plane, of the geometries that the two texts spell at the scale,
+    // with rings that the rule allows, and which of them have improper rings by the even-odd rule
     ensures related { IfOk result (λ answer.
         IfOk answer (IsRelated scale rings a.now b.now)) }
+    // exactly the first text that spells none, with its fault
     ensures fault { IfOk result (λ answer. (f : TextFault) →
         (answer ≡ Err f) ↔ HasTextFault scale rings a.now b.now f) }
 {

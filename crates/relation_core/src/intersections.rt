@@ -17,8 +17,9 @@ use geom_core::Shape;
 ///
 /// The boundary of a point is empty, that of a segment consists of its two ends, and that of a
 /// rectangle is its ring (OGC 06-103r4, 6.1.4, 6.1.6 and 6.1.10).
-#[tactic(auto, using(crate::proofs::PartLemmas::matrix_holds))]
 pub fn relate(a: &Shape, b: &Shape) -> Matrix
+    // for each part of one shape and each part of the other, the greatest dimension of the cells
+    // that lie in both, or none
     ensures { IsMatrix a.now b.now result }
 {
     matrix_by(Meeting::of(a.x(), b.x()), Meeting::of(a.y(), b.y()))

@@ -44,8 +44,11 @@ impl JoinRelation {
     /// # Errors
     /// `AllowsDisjoint` if it holds for two such shapes.
     pub fn new(relation: Relation) -> Result<JoinRelation, AllowsDisjoint>
+        // Ok exactly for relations that hold for no two disjoint shapes
         ensures ok { IsOk result ↔ ForbidsDisjoint relation }
+        // it is that relation
         ensures same { IfOk result (λ join. relation_of join ≡ relation) }
+        // otherwise it holds for some two
         ensures err { OnErr result (HoldsForDisjoint relation) }
     {
         let allowed = allows_disjoint(&relation);
@@ -68,7 +71,9 @@ impl JoinRelation {
     /// join: shapes that don't meet cost at most four comparisons.
     #[inline(always)]
     pub fn holds(&self, a: &Shape, b: &Shape) -> bool
+        // as its relation
         ensures holds { IsTrue result ↔ Holds (relation_of self.now) a.now b.now }
+        // only for shapes that meet
         ensures meet { IsTrue result → Meets a.now b.now }
     {
         let meets = a.meets(b);

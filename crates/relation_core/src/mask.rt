@@ -49,10 +49,13 @@ impl Mask {
     /// `Length` if the text doesn't have nine bytes, else `Letter` with the index of the first bad
     /// byte.
     pub fn read(text: &[u8]) -> Result<Mask, MaskFault>
+        // a mask exactly where the text spells it
         ensures ok { (mask : Mask) → (result ≡ Ok mask) ↔ SpellsMask text.now mask }
+        // each fault exactly where it applies
         ensures length { (result ≡ Err MaskFault.Length) ↔ (length text.now ≢ 9) }
         ensures letter { (place : ℕ) →
             (result ≡ Err (MaskFault.Letter place)) ↔ HasBadLetter text.now place }
+        // a mask's own text is read as that mask
         ensures text { (mask : Mask) → text.now ≡ text_of mask → result ≡ Ok mask }
     {
         if text.len() != 9 {

@@ -148,7 +148,9 @@ impl Relation {
     /// # Errors
     /// Those of [`Mask::read`]. No name has nine letters.
     pub fn read(text: &[u8]) -> Result<Relation, MaskFault>
+        // a relation exactly where the text spells it
         ensures ok { (relation : Relation) → (result ≡ Ok relation) ↔ Spells relation text.now }
+        // each fault exactly where it applies
         ensures length { (result ≡ Err MaskFault.Length) ↔
             ((length text.now ≢ 9) × SpellsNothing text.now) }
         ensures letter { (place : ℕ) →
@@ -203,7 +205,10 @@ impl Relation {
     /// names are tested as sets of points, without computing the matrix.
     #[inline(always)]
     pub fn holds(&self, a: &Shape, b: &Shape) -> bool
+        // true exactly where one of its masks fits the matrix
         ensures masks { IsTrue result ↔ Holds self.now a.now b.now }
+        // for disjoint, intersects, touches, within, contains, equals, covers, covered_by and
+        // contains_properly that is what they mean for the sets of cells
         ensures sets { IsTrue result ↔ HoldsOfSets self.now a.now b.now }
     {
         match self {

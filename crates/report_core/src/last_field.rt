@@ -38,6 +38,11 @@ pub trait LastField<G: Geometry, M: AsPair> {
         right: &Layer<G>,
     ) -> Result<(), AllocError>
         requires { is_match left.now.list right.now.list found.now }
+        // of each field: a field that the geometries of the match's features may have is added, in
+        // quotes if it needs them; of two boxes, the letters of their matrix, by their corners
+        // (`BoxLetters`); of two geometries of any kind, those of the matrix that comes with the
+        // pair (`MatrixLetters`), which the caller has to be right about; nothing where there is no
+        // column (`NoField`)
         ensures { let pair = M.pair_of found.now in
             let adds = AddsLast (name_of self.now) (is_field self.now) left.now.list
             right.now.list pair in

@@ -4,8 +4,7 @@
 mod columns;
 mod csv_fields;
 mod last_field;
-mod matches;
-mod matrix_field;
+mod letters;
 mod no_field;
 mod refining;
 mod report;
@@ -14,9 +13,10 @@ mod sink;
 mod to_write;
 
 pub use last_field::LastField;
-pub use matches::Match;
+pub use letters::{BoxLetters, MatrixLetters};
+pub use no_field::NoField;
 pub use refining::{RefiningForm, report_refining};
-pub use report::{ReportForm, report_by, report_pairs, report_texts};
+pub use report::{ReportForm, report_by};
 pub use short_text::{ROOM, ShortText};
 pub use sink::{Sink, WriteFailed, write_text, write_texts};
 pub use to_write::ToWrite;

@@ -7,7 +7,7 @@ use std::alloc::AllocError;
 
 /// No last field: a record has the two ids alone.
 #[derive(Clone, Copy, PartialEq, Eq)]
-pub(crate) struct NoField;
+pub struct NoField;
 
 impl<G: Geometry, M: AsPair> LastField<G, M> for NoField {
     ghost use Rattle.std.specs.Prelude.{None};

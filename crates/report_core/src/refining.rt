@@ -56,10 +56,13 @@ where
     requires matches { let condition = form.now.condition.now in
         let is_match = F.is_match left.now.list right.now.list in
         AreMatches (C.stands condition) (C.answers condition) is_match }
+    // of the candidates of any condition, that report of the candidates that satisfy the condition,
+    // all of them and no other, in order
     ensures report { let condition = form.now.condition.now in let field = form.now.field.now in
         let report = IsReportBy (F.name_of field) (F.is_field field) left.now.list right.now.list in
         let is = IsRefinedReport (C.stands condition) (C.answers condition) report in
         IfOk result (λ texts. is candidates.now (joined texts.items)) }
+    // as above
     ensures few { IfOk result (λ texts. length texts.items ≤ form.now.workers + 1) }
 {
     let chunks = refined_chunks(rt, form, left, right, candidates)?;

@@ -5,15 +5,12 @@ ghost use Rattle.std.specs.List.{flat_map};
 ghost use Rattle.report_core.specs.Columns.{AreColumnsFor};
 ghost use Rattle.report_core.specs.ReportRows.{AddsRows, AreRows, IsRowOf, header_line};
 ghost use Rattle.report_core.specs.ReportRows.{name_in, right_part, text_or_none};
-ghost use Rattle.report_core.specs.Reports.{IsHeld, IsPairReport, IsReport, IsReportBy};
+ghost use Rattle.report_core.specs.Reports.{IsReportBy};
 ghost use Rattle.report_core.specs.Written.{joined};
 
 use crate::columns::Columns;
 use crate::csv_fields::push_field;
 use crate::last_field::LastField;
-use crate::matches::Match;
-use crate::matrix_field::MatrixField;
-use crate::no_field::NoField;
 use layer_core::{Geometry, Layer};
 use refine_core::AsPair;
 use std::alloc::{AllocError, Global};
@@ -37,65 +34,6 @@ pub(crate) struct Fields<'a, F> {
     pub(crate) last: &'a F,
 }
 
-/// The report of these matches, as texts to be concatenated: a CSV record `left,right,matrix`, then
-/// one record for each match, with the ids of its features and the letters of their matrix. At most
-/// `workers` threads write it, each to a text of its own.
-///
-/// # Errors
-/// If an allocation fails.
-pub fn report_texts<R, G, M>(
-    rt: &R,
-    left: &Layer<G>,
-    right: &Layer<G>,
-    matches: &[M],
-    workers: u32,
-) -> Result<Vec<Vec<u8>>, AllocError>
-where
-    R: AllocGlobal + Threads + Sync,
-    G: Geometry + Sync,
-    M: Match<G> + Sync,
-    requires { All (M.is_match left.now.list right.now.list) matches.now }
-    ensures report { let pairs = map M.pair_of matches.now in IfOk result
-        (λ texts. IsReport M.is_matrix left.now.list right.now.list pairs (joined texts.items)) }
-    ensures few { IfOk result (λ texts. length texts.items ≤ workers + 1) }
-{
-    let field = MatrixField::new();
-    let form = ReportForm {
-        field: &field,
-        workers,
-    };
-    report_by(rt, &form, left, right, matches)
-}
-
-/// The report of the pairs of these matches alone, as texts to be concatenated: a CSV record
-/// `left,right`, then one record for each match, with the ids of its features. At most `workers`
-/// threads write it, each to a text of its own.
-///
-/// # Errors
-/// If an allocation fails.
-pub fn report_pairs<R, G, M>(
-    rt: &R,
-    left: &Layer<G>,
-    right: &Layer<G>,
-    matches: &[M],
-    workers: u32,
-) -> Result<Vec<Vec<u8>>, AllocError>
-where
-    R: AllocGlobal + Threads + Sync,
-    G: Geometry + Sync,
-    M: AsPair + Sync,
-    requires { All (λ found. IsHeld left.now.list right.now.list (M.pair_of found)) matches.now }
-    ensures report { let pairs = map M.pair_of matches.now in IfOk result
-        (λ texts. IsPairReport left.now.list right.now.list pairs (joined texts.items)) }
-    ensures few { IfOk result (λ texts. length texts.items ≤ workers + 1) }
-{
-    let form = ReportForm {
-        field: &NoField,
-        workers,
-    };
-    report_by(rt, &form, left, right, matches)
-}
-
 /// The report of these matches, as texts to be concatenated: a CSV record `left,right` with the
 /// name of the last column, if there is one, then one record for each match, with the ids of its
 /// features and the last field. At most as many threads write it as the form says, each to a text
@@ -116,9 +54,13 @@ where
     G: Geometry + Sync,
     M: AsPair + Sync,
     requires { All (F.is_match left.now.list right.now.list) matches.now }
+    // concatenated, the report of pairs that two layers hold, for any number of workers, any type
+    // of geometry and any last field: the header with the field's name, and for each pair in order
+    // the ids and a field that its two geometries may have; of none, the ids alone
     ensures report { let field = form.now.field.now in
         let is = IsReportBy (F.name_of field) (F.is_field field) left.now.list right.now.list in
         IfOk result (λ texts. is (map M.pair_of matches.now) (joined texts.items)) }
+    // no more texts than a header's and one for each worker
     ensures few { IfOk result (λ texts. length texts.items ≤ form.now.workers + 1) }
 {
     if form.workers > 1 {

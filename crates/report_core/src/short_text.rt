@@ -37,7 +37,9 @@ impl ShortText {
 
     /// A text that begins like each line of a message, with the program's name.
     pub fn begun() -> ShortText
+        // the beginning of each line of a fault
         ensures text { result ≡ codes "rjoin: " }
+        // its 7 bytes
         ensures len { length result ≡ 7 }
     {
         let mut line = ShortText::new();
@@ -48,7 +50,9 @@ impl ShortText {
     /// Adds a text.
     pub fn push(&mut self, text: &str)
         requires { length self.old + length text.now ≤ ROOM }
+        // it is appended
         ensures text { self.new ≡ self.old ++ text.now }
+        // by as many bytes as it has, at most 10 for a number
         ensures len { length self.new ≡ length self.old + length text.now }
     {
         self.text.push_str(text);
@@ -57,6 +61,7 @@ impl ShortText {
     /// Adds a number in decimal digits.
     pub fn push_number(&mut self, number: u32)
         requires { length self.old + 10 ≤ ROOM }
+        // as of `ShortText::push`
         ensures text { self.new ≡ self.old ++ decimal number }
         ensures len { length self.new ≤ length self.old + 10 }
     {
@@ -74,6 +79,7 @@ impl ShortText {
     pub fn write<S: Sink>(mut self, sink: &mut S) -> Result<(), WriteFailed>
         requires room { length self < ROOM }
         requires fresh { S.has_failed sink.old ≡ false }
+        // as of `write_text`
         ensures ok { OnOk result (Appends (S.written sink.old) (S.written sink.new)
             (self ++ 10 ∷ [])) }
         ensures flushed { OnOk result (IsTrue (S.is_flushed sink.new)) }

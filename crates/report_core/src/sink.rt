@@ -29,16 +29,23 @@ pub trait Sink {
     /// empty.
     fn write(&mut self, text: &[u8]) -> Result<usize, WriteFailed>
         requires { has_failed self.old ≡ false }
+        // of each sink, it takes no more bytes than there are
         ensures within { IfOk result (λ n. n ≤ length text.now) }
+        // at least one of them
         ensures some { IfOk result (λ n. 0 < length text.now → 0 < n) }
+        // the first ones, behind what was written
         ensures bytes { WriteAppends (written self.old) (written self.new) result text.now }
+        // it is an error exactly where the sink has failed then
         ensures failed { IsErr result ↔ IsTrue (has_failed self.new) };
 
     /// Flushes the text written so far.
     fn flush(&mut self) -> Result<(), WriteFailed>
         requires { has_failed self.old ≡ false }
+        // nothing more is written
         ensures bytes { Keeps (written self.old) (written self.new) }
+        // all that was is flushed
         ensures flushed { OnOk result (IsTrue (is_flushed self.new)) }
+        // as above
         ensures failed { IsErr result ↔ IsTrue (has_failed self.new) };
 
     /// Whether the device has failed.
@@ -49,9 +56,13 @@ pub trait Sink {
 /// Writes the whole text and flushes it. If the device fails, a prefix of the text was written.
 pub fn write_text<S: Sink>(sink: &mut S, text: &[u8]) -> Result<(), WriteFailed>
     requires { S.has_failed sink.old ≡ false }
+    // all was written
     ensures ok { OnOk result (Appends (S.written sink.old) (S.written sink.new) text.now) }
+    // flushed
     ensures flushed { OnOk result (IsTrue (S.is_flushed sink.new)) }
+    // a prefix was written
     ensures err { OnErr result (AppendsPrefix (S.written sink.old) (S.written sink.new) text.now) }
+    // a fault exactly where the sink has failed
     ensures failed { IsErr result ↔ IsTrue (S.has_failed sink.new) }
 {
     write_all(sink, text)?;
@@ -62,6 +73,7 @@ pub fn write_text<S: Sink>(sink: &mut S, text: &[u8]) -> Result<(), WriteFailed>
 /// concatenation was written.
 pub fn write_texts<S: Sink>(sink: &mut S, texts: &[Vec<u8>]) -> Result<(), WriteFailed>
     requires { S.has_failed sink.old ≡ false }
+    // as of `write_text`
     ensures ok { OnOk result (Appends (S.written sink.old) (S.written sink.new)
         (joined texts.now)) }
     ensures flushed { OnOk result (IsTrue (S.is_flushed sink.new)) }

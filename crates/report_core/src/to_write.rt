@@ -27,7 +27,9 @@ impl<W: Write> ToWrite<W> {
 
     /// A sink that hasn't failed.
     pub fn new(writer: W) -> ToWrite<W>
+        // the sink of that writer
         ensures writer { writer_of result ≡ writer }
+        // it hasn't failed
         ensures fresh { failed_of result ≡ false }
     {
         ToWrite {

@@ -224,7 +224,7 @@ records-cut (suc m) (suc n) zero s a b start between big first second = absurd (
 records-cut (suc m) (suc n) (suc k) s a b start between big first second =
     by (next_record default_config s [] [] a) refl
     (λ p found.
-    let left = takes s a p start found in
+    let left = takes 44 s a p start found in
     let whole = carries a b s [] [] p between found in
     let rest : EndsBetween p.1 p.2 = ap ends_at_end whole.after ∙ between in
     records-cut m n (suc k) p.1 p.2 b left.1 rest (omega (arith, length-append p.2 b, length-append a b)) (omega arith) second)
@@ -237,7 +237,7 @@ records-cut (suc m) (suc n) (suc k) s a b start between big first second =
         ++ records_next (records_from default_config k) (next_record default_config (state_after s a) [] [] b)
     by None found more =
         let over = skips a b s start found in
-        let enough = records-enough (suc m) (suc k) (state_after s a) b (omega (arith, length-append a b)) second between in
+        let enough = records-enough 44 (suc m) (suc k) (state_after s a) b (omega (arith, length-append a b)) second between in
         rw (found, over.same) enough
     by (Some p) found more =
         let whole = carries a b s [] [] p between found in
@@ -323,7 +323,7 @@ closed-between (suc n) s a start enough closed =
         by : IsOpen s a p → EndsBetween s (a ++ 10 ∷ [])
         by (inl (front, last, is)) = absurd (closed 0 [] (omega arith) front last is)
         by (inr (rest, is, after)) =
-            let left = takes s (a ++ 10 ∷ []) p start found in
+            let left = takes 44 s (a ++ 10 ∷ []) p start found in
             let few = rw is at left.0 in
             let others = rw is at (All-tail IsClosed p.0 (records_from default_config n p.1 p.2) closed) in
             let ends : EndsBetween p.1 (rest ++ 10 ∷ []) = more rest p.1 left.1 (omega arith) others in

@@ -7,15 +7,17 @@ use Rattle.csv.specs.Records.{field_at}
 use Rattle.csv.specs.declared.parser.State.{State}
 use Rattle.csv.specs.declared.parser.State.TheVariants as st
 use Rattle.row_core.specs.declared.rows.Rows.{Rows as RowsOf}
-use Rattle.row_core.specs.declared.unread.Unread.TheVariants.{Text}
+use Rattle.format_core.specs.declared.layout.Delimiter.TheVariants.{Comma}
+use Rattle.format_core.specs.declared.layout.Layout.{Layout}
+use Rattle.row_core.specs.declared.header.Places.{Places}
+use Rattle.row_core.specs.declared.unread.Unread.TheVariants.{Rows, Text}
 use Rattle.row_core.specs.Cuts.{EndsBetween, EndsWithFeed, IsClosed, IsPlain, state_after}
-use Rattle.row_core.specs.LayerRows.{layer_columns}
-use Rattle.row_core.specs.Limits.{most_file_bytes}
 use Rattle.row_core.specs.Records.{Record, records_of}
-use Rattle.row_core.specs.Rows.{IsOpened, has_unended, rows_left}
+use Rattle.row_core.specs.Rows.{has_unended, last_row, rows_left}
+use Rattle.row_core.specs.Tables.{IsOpenedTable}
 use Rattle.row_core.specs.Unread.{IsHeaded, IsHeaderLine, IsUnreadFile}
 use Rattle.row_core.proofs.CutLemmas.{closed-between, state-append, step-after_cr, text-cut}
-use Rattle.row_core.proofs.FileLemmas.{rows-headed}
+use Rattle.row_core.proofs.FileLemmas.{table-opened, table-placed}
 use Rattle.row_core.proofs.RecordLemmas.{length_records_from}
 
 -- ---- ends and beginnings
@@ -104,39 +106,49 @@ ends-append a b first second = rw (state-append st.StartRecord a b) (ends-from (
 
 -- ---- a header
 
-pub header_line : (line : List ℕ) (rows : RowsOf) → 3 < length line → EndsWithFeed line → IsOpened layer_columns line rows
-    → has_unended rows ≡ false → rows_left rows ≡ [] → IsHeaderLine layer_columns line
-header_line line rows long ends opened ended none =
-    let alone : records_of line ≡ opened.header ∷ [] = opened.records ∙ ap (λ others. opened.header ∷ others) none in
+pub header_line : (layout : Layout) (line : List ℕ) (rows : RowsOf) (places : Places) → layout.delimiter ≡ Comma → 3 < length line → EndsWithFeed line
+    → IsOpenedTable layout line rows places → has_unended rows ≡ false → rows_left rows ≡ [] → IsHeaderLine layout.columns line places
+header_line layout line rows places commas long ends opened ended none =
+    let records = rw commas at opened.behind.records in
+    let alone : records_of Comma line ≡ last_row rows ∷ [] = records ∙ ap (λ others. last_row rows ∷ others) none in
     record {
-      header = opened.header;
-      headed = opened.headed;
+      header = last_row rows;
+      placed = opened.placed;
       records = alone;
       ends = feed-between (strip_bom line) (strip-feed line long ends)
-          (rw alone (All-cons IsClosed opened.header [] (opened.closed ended) (All-nil IsClosed)));
+          (rw alone (All-cons IsClosed (last_row rows) [] (opened.behind.closed ended) (All-nil IsClosed)));
       long = omega arith;
     }
 
-header-unread : (bytes line : List ℕ) (rest : Bor (List ℕ)) → line ++ rest.now ≡ bytes → length bytes ≤ most_file_bytes
-    → IsHeaderLine layer_columns line → IsPlain rest.now → IsUnreadFile bytes (Text rest 0)
-header-unread bytes line rest is few headed plain =
-    let text : strip_bom bytes ≡ strip_bom line ++ rest.now = ap strip_bom (sym is) ∙ strip-append line rest.now headed.long in
-    let all : records_of bytes ≡ headed.header ∷ records default_config rest.now =
-    ap (records default_config) text ∙ text-cut (strip_bom line) rest.now headed.ends
-    ∙ ap (λ first. first ++ records default_config rest.now) headed.records in
+header-unread : (layout : Layout) (bytes : List ℕ) (rest : Bor (List ℕ)) (places : Places) → IsHeaded layout bytes rest.now places
+    → IsUnreadFile layout bytes (Text rest 0) places
+header-unread layout bytes rest places h =
+    let text : strip_bom bytes ≡ strip_bom h.line ++ rest.now = ap strip_bom (sym h.whole) ∙ strip-append h.line rest.now h.headed.long in
+    let all : records_of Comma bytes ≡ h.headed.header ∷ records default_config rest.now =
+    ap (records default_config) text ∙ text-cut (strip_bom h.line) rest.now h.headed.ends
+    ∙ ap (λ first. first ++ records default_config rest.now) h.headed.records in
     record {
-      rows = rows-headed layer_columns bytes few headed.header (records default_config rest.now) all headed.headed;
+      table = table-placed layout bytes h.headed.header (records default_config rest.now) h.few (rw h.commas all) places h.headed.placed;
       none_read = refl;
       reading = (
-        plain,
-        omega (arith, length_records_from (length rest.now + 1) st.StartRecord rest.now, ap length is, length-append line rest.now),
+        h.plain,
+        omega (arith, length_records_from 44 (length rest.now + 1) st.StartRecord rest.now, h.few, ap length h.whole, length-append h.line rest.now),
       );
     }
 
 -- a file that is cut after its first line
-pub header_cut : (bytes : List ℕ) (r : Option (Bor (List ℕ))) → IfSome r (λ rest. IsHeaded bytes rest.now)
-    → IfSome r (λ rest. IsUnreadFile bytes (Text rest 0))
-header_cut bytes None h = h
-header_cut bytes (Some rest) h = header-unread bytes h.line rest h.whole h.few h.headed h.plain
+pub header_cut : (layout : Layout) (bytes : List ℕ) (r : Option (Bor (List ℕ) × Places)) → IfSome r (λ found. IsHeaded layout bytes found.0.now found.1)
+    → IfSome r (λ found. IsUnreadFile layout bytes (Text found.0 0) found.1)
+header_cut layout bytes None h = h
+header_cut layout bytes (Some found) h = header-unread layout bytes found.0 found.1 h
+
+-- a file that a reader reads
+pub opened_unread : (layout : Layout) (bytes : List ℕ) (rows : RowsOf) (places : Places) → IsOpenedTable layout bytes rows places
+    → IsUnreadFile layout bytes (Rows rows) places
+opened_unread layout bytes rows places opened = record {
+  table = table-opened layout bytes rows places opened;
+  none_read = opened.behind.none_read;
+  reading = opened.behind.reading;
+}
 
 pub ruleset plain = (plain_empty, plain_first)

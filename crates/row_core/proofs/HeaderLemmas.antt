@@ -1,10 +1,12 @@
 -- A header is one if its names are those of the columns, place by place.
-use Rattle.std.proofs.Common.{◌≡◌, ℕ, zero, suc, ◌<◌, List, [], ◌∷◌, length, map, get_or, Some, Bor, refl, sym, ap, ◌∙◌, arith, ext_get_or}
+use Rattle.std.proofs.Common.{◌≡◌, ◌⊎◌, inl, inr, ℕ, zero, suc, ◌+◌, ◌<◌, List, [], ◌∷◌, length, map, get_or, Some, Bor, refl, sym, ap, ◌∙◌, arith, ext_get_or}
 use Rattle.std.specs.Char.{to_ascii_lowercase}
+use Rattle.std.proofs.lemmas.Bool.{cases_order}
 use Rattle.std.proofs.lemmas.List.{length-map}
 use Rattle.csv.specs.Records.{field_at}
 use Rattle.row_core.specs.Records.{Record}
 use Rattle.row_core.specs.Rows.{lowercase, IsHeader}
+use Rattle.row_core.specs.Tables.{HasNoneFrom, IsNamedAt, IsNextNamed, IsOnlyAt}
 
 -- the names of the columns
 abbrev pub names : List (Bor (List ℕ)) → Record
@@ -54,3 +56,28 @@ header-agrees fields columns len agree =
     ext_get_or [] (lowercase fields) (lowercase (names columns))
     (length-small fields ∙ len ∙ sym (length-small (names columns) ∙ length-map columns (λ c. c.now)))
     (λ k h. agree k (omega (arith, length-small fields)))
+
+-- ---- the place of a name
+
+-- a name at this place and at none behind it, the first at which it stands
+pub only_here : (name : List ℕ) (header : Record) (place : ℕ) → IsNextNamed name header 0 place → HasNoneFrom name header (place + 1) → IsOnlyAt name header place
+only_here name header place next none = record {
+  within = next.within;
+  named = next.named;
+  only = λ other within named. by other within named (cases_order other place);
+}
+  where
+    by : (other : ℕ) → other < length header → IsNamedAt name header other → (other ≡ place) ⊎ ((other < place) ⊎ (place < other)) → other ≡ place
+    by other within named (inl same) = same
+    by other within named (inr (inl before)) = absurd (next.none_before other (omega arith) before named)
+    by other within named (inr (inr behind)) = absurd (none other (omega arith) within named)
+
+pub only_missing : (name : List ℕ) (header : Record) → HasNoneFrom name header 0 → (place : ℕ) → ¬ (IsOnlyAt name header place)
+only_missing name header none place only = none place (omega arith) only.within only.named
+
+pub only_twice : (name : List ℕ) (header : Record) (first second : ℕ) → IsNextNamed name header 0 first → IsNextNamed name header (first + 1) second
+    → (place : ℕ) → ¬ (IsOnlyAt name header place)
+only_twice name header first second one two place only =
+    absurd (omega (arith, only.only first one.within one.named, only.only second two.within two.named, two.from))
+
+pub ruleset only_place = (only_here, only_missing, only_twice)

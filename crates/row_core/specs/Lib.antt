@@ -7,4 +7,5 @@ pub mod Records
 pub mod RowFaults
 pub mod Rows
 pub mod Sources
+pub mod Tables
 pub mod Unread

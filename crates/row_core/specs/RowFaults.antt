@@ -2,7 +2,7 @@
 use Rattle.std.specs.Prelude.{◌≡◌, ℕ, List, Err}
 use Rattle.format_core.specs.declared.text_fault.TextFault.{TextFault}
 use Rattle.format_core.specs.declared.text_fault.TextFault.TheVariants as text
-use Rattle.format_core.specs.Formats.{Reading}
+use Rattle.format_core.specs.Layouts.{TextReading}
 use Rattle.layer_core.specs.declared.fault.LayerFault.{LayerFault}
 use Rattle.layer_core.specs.declared.fault.LayerFault.TheVariants.{BadId, DoubleId, LayerFull}
 use Rattle.layer_core.specs.declared.fault.LayerFault.TheVariants.{NoSuchId, Memory}
@@ -16,7 +16,7 @@ fault_of_text n (text.Wkt fault) = Wkt n fault
 fault_of_text n (text.Geometry fault) = Geometry n fault
 
 -- the text has a fault, which is this fault of the row with this number
-abbrev pub HasTextFault : {G : Type 0} → Reading G → ℕ → List ℕ → ReadFault → Type 0
+abbrev pub HasTextFault : {G : Type 0} → TextReading G → ℕ → List ℕ → ReadFault → Type 0
 HasTextFault reads n wkt fault =
     (cause : TextFault) × reads wkt (Err cause) × (fault ≡ fault_of_text n cause)
 

@@ -4,6 +4,8 @@ use Rattle.std.specs.Prelude.{nat_lt, Result, Ok, Err, MatchResult}
 use Rattle.std.specs.Bool.{MatchBool}
 use Rattle.std.specs.Char.{to_ascii_lowercase}
 use Rattle.csv.specs.Records.{fields_of}
+use Rattle.format_core.specs.declared.layout.Delimiter.{Delimiter}
+use Rattle.format_core.specs.declared.layout.Delimiter.TheVariants.{Comma}
 use Rattle.row_core.specs.declared.read_fault.ReadFault.{ReadFault}
 use Rattle.row_core.specs.declared.read_fault.ReadFault.TheVariants.{TooLong, Header}
 use Rattle.row_core.specs.declared.rows.Rows.{Rows}
@@ -30,7 +32,7 @@ abbrev pub AreRows : List (List ℕ) → List ℕ → Result (List Record) ReadF
 AreRows columns bytes rows =
     MatchBool (nat_lt most_file_bytes (length bytes))
     (rows ≡ Err TooLong)
-    (AreBehindHeader columns (records_of bytes) rows)
+    (AreBehindHeader columns (records_of Comma bytes) rows)
 
 -- the result of the rows in order, starting with this number, each applied to the result of those
 -- before it: that of all of them, or the fault of the first that has one
@@ -75,13 +77,25 @@ pub record IsReading (rows : Rows) : Type 0 where
   pub reader : IsBetweenRecords rows.records.value.reader
   pub few : rows_read rows + length (rows_left rows) ≤ most_rows
 
--- the rows of a file with these columns, after this header and before any was read
+-- the rows of a file behind its first record, which was read last
+pub record IsBehindFirst (delimiter : Delimiter) (bytes : List ℕ) (rows : Rows) : Type 0 where
+  pub short : length bytes ≤ most_file_bytes
+  pub records : records_of delimiter bytes ≡ last_row rows ∷ rows_left rows
+  pub closed : has_unended rows ≡ false → IsClosed (last_row rows)
+  pub few : length (rows_left rows) ≤ most_file_bytes
+  pub none_read : rows_read rows ≡ 0
+  pub reading : IsReading rows
+
+-- why a file has no first record
+abbrev pub HasNoFirst : Delimiter → List ℕ → ReadFault → Type 0
+HasNoFirst delimiter bytes fault =
+    MatchBool (nat_lt most_file_bytes (length bytes))
+    (fault ≡ TooLong)
+    ((records_of delimiter bytes ≡ []) × (fault ≡ Header))
+
+-- the rows of a file with these columns, before any was read
 pub record IsOpened (columns : List (List ℕ)) (bytes : List ℕ) (rows : Rows) : Type 0 where
   pub behind_header : AreRows columns bytes (Ok (rows_left rows))
-  pub header : Record
-  pub headed : IsHeader columns header
-  pub records : records_of bytes ≡ header ∷ rows_left rows
-  pub closed : has_unended rows ≡ false → IsClosed header
   pub few : length (rows_left rows) ≤ most_file_bytes
   pub none_read : rows_read rows ≡ 0
   pub reading : IsReading rows

@@ -2,13 +2,17 @@
 use Rattle.std.specs.Prelude.{◌≡◌, ◌≤◌, ◌+◌, ℕ, List, [], ◌∷◌, ◌++◌, length, Ok}
 use Rattle.csv.specs.Reading.{default_config, records, strip_bom}
 use Rattle.csv.specs.declared.parser.State.TheVariants.{StartRecord}
+use Rattle.format_core.specs.declared.layout.Columns.{Columns}
+use Rattle.format_core.specs.declared.layout.Delimiter.TheVariants.{Comma}
+use Rattle.format_core.specs.declared.layout.Layout.{Layout}
+use Rattle.row_core.specs.declared.header.Places.{Places}
 use Rattle.row_core.specs.declared.unread.Unread.{Unread}
 use Rattle.row_core.specs.declared.unread.Unread.TheVariants.{Text, Rows}
 use Rattle.row_core.specs.Cuts.{EndsBetween, IsPlain}
-use Rattle.row_core.specs.LayerRows.{layer_columns}
 use Rattle.row_core.specs.Limits.{most_file_bytes}
 use Rattle.row_core.specs.Records.{Record, records_of}
-use Rattle.row_core.specs.Rows.{AreRows, IsHeader, IsReading, most_rows, rows_left, rows_read}
+use Rattle.row_core.specs.Rows.{IsReading, most_rows, rows_left, rows_read}
+use Rattle.row_core.specs.Tables.{ArePlaces, IsTable}
 
 -- the remaining rows
 abbrev pub records_unread : Unread → List Record
@@ -26,24 +30,27 @@ IsUnread (Text text count) =
     IsPlain text.now × (count + length (records default_config text.now) ≤ most_rows)
 IsUnread (Rows rows) = IsReading rows
 
--- all rows of a file
-pub record IsUnreadFile (bytes : List ℕ) (unread : Unread) : Type 0 where
-  pub rows : AreRows layer_columns bytes (Ok (records_unread unread))
+-- all rows of a file with this layout, and the places of its columns
+pub record IsUnreadFile (layout : Layout) (bytes : List ℕ) (unread : Unread) (places : Places)
+    : Type 0 where
+  pub table : IsTable layout bytes (Ok (record { places = places; rows = records_unread unread }))
   pub none_read : count_unread unread ≡ 0
   pub reading : IsUnread unread
 
--- the line has a header of these columns as its only record, even if a mark precedes it
-pub record IsHeaderLine (columns : List (List ℕ)) (line : List ℕ) : Type 0 where
+-- the line has a header with these columns at these places as its only record, even if a mark
+-- precedes it
+pub record IsHeaderLine (columns : Columns) (line : List ℕ) (places : Places) : Type 0 where
   pub header : Record
-  pub headed : IsHeader columns header
-  pub records : records_of line ≡ header ∷ []
+  pub placed : ArePlaces columns header places
+  pub records : records_of Comma line ≡ header ∷ []
   pub ends : EndsBetween StartRecord (strip_bom line)
   pub long : 3 ≤ length line
 
--- a file whose first line consists of the header alone, and whose rest is plain
-pub record IsHeaded (bytes rest : List ℕ) : Type 0 where
+-- a file with commas whose first line consists of the header alone, and whose rest is plain
+pub record IsHeaded (layout : Layout) (bytes rest : List ℕ) (places : Places) : Type 0 where
+  pub commas : layout.delimiter ≡ Comma
   pub line : List ℕ
   pub whole : line ++ rest ≡ bytes
   pub few : length bytes ≤ most_file_bytes
-  pub headed : IsHeaderLine layer_columns line
+  pub headed : IsHeaderLine layout.columns line places
   pub plain : IsPlain rest

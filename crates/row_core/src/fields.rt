@@ -1,6 +1,6 @@
 //! Decoding the fields of a record.
 
-ghost use Rattle.std.specs.Prelude.{◌≡◌, ◌≢◌, [], ◌∷◌, codes, length, IsTrue, ◌↔◌, IfSome, IfNone};
+ghost use Rattle.std.specs.Prelude.{◌≡◌, ◌≢◌, [], ◌∷◌, get_or, length, IfSome, IfNone};
 ghost use Rattle.csv.specs.Records.{fields_of};
 ghost use Rattle.row_core.specs.Fields.{IsId, side_named};
 
@@ -8,23 +8,24 @@ use csv::ByteRecord;
 use layer_core::{Side, is_id};
 use std::str::from_utf8;
 
-/// The fields of a record, if it has two.
-#[tactic(auto, using(crate::proofs::FieldLemmas::of_two))]
-pub(crate) fn two_fields(row: &ByteRecord) -> Option<(&[u8], &[u8])>
-    ensures some { IfSome result (λ f. fields_of row.now ≡ f.0.now ∷ f.1.now ∷ []) }
-    ensures none { IfNone result (length (fields_of row.now) ≢ 2) }
+/// The field of a record at a place, or an empty one if there is none.
+#[tactic(auto, using(crate::proofs::FieldLemmas::at_place))]
+pub(crate) fn field(row: &ByteRecord, place: usize) -> &[u8]
+    ensures { result.now ≡ get_or (fields_of row.now) place [] }
 {
-    if row.len() != 2 {
-        return None;
+    match row.get(place) {
+        Some(field) => field,
+        None => b"".as_slice(),
     }
-    Some((row.get(0)?, row.get(1)?))
 }
 
 /// The fields of a record, if it has four.
 #[tactic(auto, using(crate::proofs::FieldLemmas::of_four))]
 pub fn four_fields(row: &ByteRecord) -> Option<(&[u8], &[u8], &[u8], &[u8])>
+    // the fields of a record
     ensures some { IfSome result
         (λ f. fields_of row.now ≡ f.0.now ∷ f.1.now ∷ f.2.now ∷ f.3.now ∷ []) }
+    // it doesn't have four
     ensures none { IfNone result (length (fields_of row.now) ≢ 4) }
 {
     if row.len() != 4 {
@@ -35,7 +36,9 @@ pub fn four_fields(row: &ByteRecord) -> Option<(&[u8], &[u8], &[u8], &[u8])>
 
 /// The id in a field, if it is valid.
 pub fn id_in(field: &[u8]) -> Option<&str>
+    // the id that a field is
     ensures some { IfSome result (λ id. IsId field.now × (id.now ≡ field.now)) }
+    // it is none
     ensures none { IfNone result (¬ (IsId field.now)) }
 {
     match from_utf8(field) {

@@ -4,6 +4,7 @@
 
 mod ends;
 mod fields;
+mod header;
 mod layer_row;
 mod read_fault;
 mod row_reader;
@@ -13,7 +14,8 @@ mod unread;
 
 pub use ends::{ends_with_feed, is_plain};
 pub use fields::{four_fields, id_in, side_in};
-pub use layer_row::{ReadRow, read_row};
+pub use header::Places;
+pub use layer_row::{LayerRowReader, ReadRow, read_row};
 pub use read_fault::ReadFault;
 pub use row_reader::RowReader;
 pub use rows::Rows;

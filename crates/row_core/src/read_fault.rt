@@ -44,7 +44,9 @@ impl ReadFault {
 
     /// The fault of a row that the layer refuses. Lack of memory is no fault of the row.
     pub fn of_row(number: u32, fault: LayerFault) -> ReadFault
+        // that of a row which a layer refuses, or whose geometry's text has a fault
         ensures fault { result ≡ fault_of_row number fault }
+        // never `Io`
         ensures no_io { result ≢ ReadFault.Io }
     {
         match fault {
@@ -55,6 +57,7 @@ impl ReadFault {
 
     /// The fault of a row whose geometry can't be read.
     pub fn of_text(number: u32, fault: TextFault) -> ReadFault
+        // as of `ReadFault::of_row`
         ensures fault { result ≡ fault_of_text number fault }
         ensures no_io { result ≢ ReadFault.Io }
     {
@@ -77,7 +80,9 @@ impl ReadFault {
 
     /// The fault in a few words, at most 70 bytes, without the row's number.
     pub fn text(&self) -> &'static str
+        // the words of the fault, without the row
         ensures text { result.now ≡ cause_text self.now }
+        // at most 70 bytes
         ensures short { length result.now ≤ 70 }
     {
         match self {

@@ -1,17 +1,18 @@
 //! The rows of a CSV file, one after another.
 
-ghost use Rattle.std.specs.Prelude.{◌≡◌, ◌≢◌, ◌↔◌, [], Err, map, IsTrue, IfOk, IfErr, MatchOption};
+ghost use Rattle.std.specs.Prelude.{◌≡◌, ◌≢◌, [], Err, map, IfOk, IfErr, MatchOption};
 ghost use Rattle.std.specs.Bool.{MatchBool};
 ghost use Rattle.csv.specs.Reading.{error_kind};
 ghost use Rattle.csv.specs.Records.{fields_of};
-ghost use Rattle.row_core.specs.Rows.{IsHeader};
 ghost use Rattle.row_core.specs.Records.{records_of, records_left, IsBetweenRecords};
 ghost use Rattle.row_core.specs.Records.{IsRefusedOrUnread, TakesRecord};
 
 use crate::ends::is_unended;
+use crate::header::{Places, is_header, places_in};
 use crate::read_fault::ReadFault;
 use crate::source::MAX_FILE_BYTES;
 use csv::{ByteRecord, Error, Reader, ReaderBuilder};
+use format_core::{Delimiter, Layout};
 use std::alloc::{AllocError, Global};
 
 /// The rows of a file, in turn.
@@ -38,22 +39,64 @@ impl<'a> Rows<'a> {
     ghost use Rattle.csv.specs.Reading.{default_config, records};
     ghost use Rattle.row_core.specs.Cuts.{IsPlain};
     ghost use Rattle.row_core.specs.Rows.{last_row, rows_left, AreRows, IsOpened, IsReading};
+    ghost use Rattle.row_core.specs.Rows.{HasNoFirst, IsBehindFirst};
+    ghost use Rattle.row_core.specs.Tables.{IsOpenedTable, IsTable};
     ghost use Rattle.row_core.specs.Rows.{has_unended, most_rows, rows_read, IsEnded, ReadsRow};
 
-    /// The rows of a file after its header, which must name these columns in any ASCII case.
+    /// The rows of a file with commas after its header, which must name these columns in any ASCII
+    /// case.
     pub fn open(alloc: Global, file: &'a [u8], columns: &[&str]) -> Result<Rows<'a>, ReadFault>
+        // the rows of a file, those of its CSV records behind its header
         ensures ok { IfOk result (λ rows. IsOpened (map (λ c. c.now) columns.now) file.now rows) }
+        // why it has none, unless memory is refused
         ensures err { IfErr result (λ fault. fault ≢ ReadFault.Memory
             → AreRows (map (λ c. c.now) columns.now) file.now (Err fault)) }
+        // never `Io`
+        ensures no_io { result ≢ Err ReadFault.Io }
+    {
+        let rows = Rows::behind_first(alloc, Delimiter::Comma, file)?;
+        if !is_header(rows.row(), columns) {
+            return Err(ReadFault::Header);
+        }
+        Ok(rows)
+    }
+
+    /// The rows of a layer's file after its header, and the places of the columns that are read.
+    pub(crate) fn open_table(
+        alloc: Global,
+        file: &'a [u8],
+        layout: Layout<'_>,
+    ) -> Result<(Rows<'a>, Places), ReadFault>
+        ensures ok { IfOk result (λ opened. IsOpenedTable layout.entry file.now opened.0 opened.1) }
+        ensures err { IfErr result (λ fault. fault ≢ ReadFault.Memory
+            → IsTable layout.entry file.now (Err fault)) }
+        ensures no_io { result ≢ Err ReadFault.Io }
+    {
+        let rows = Rows::behind_first(alloc, layout.delimiter, file)?;
+        let Some(places) = places_in(rows.row(), layout.columns) else {
+            return Err(ReadFault::Header);
+        };
+        Ok((rows, places))
+    }
+
+    /// The rows of a file after its first record, which is the last one read.
+    fn behind_first(
+        alloc: Global,
+        delimiter: Delimiter,
+        file: &'a [u8],
+    ) -> Result<Rows<'a>, ReadFault>
+        ensures ok { IfOk result (IsBehindFirst delimiter file.now) }
+        ensures err { IfErr result (λ fault. fault ≢ ReadFault.Memory
+            → HasNoFirst delimiter file.now fault) }
         ensures no_io { result ≢ Err ReadFault.Io }
     {
         if file.len() > MAX_FILE_BYTES {
             return Err(ReadFault::TooLong);
         }
-        let mut records = records(alloc, file)?;
+        let mut records = records(alloc, delimiter, file)?;
         let first = &mut *records;
         let found = next_record(first)?;
-        if !found || !is_header(&first.last, columns) {
+        if !found {
             return Err(ReadFault::Header);
         }
         let unended = is_unended(&first.last);
@@ -64,16 +107,19 @@ impl<'a> Rows<'a> {
         })
     }
 
-    /// All records of a text as rows, which follow `count` others.
+    /// All records of a text with commas as rows, which follow `count` others.
     pub fn behind(alloc: Global, text: &'a [u8], count: u32) -> Result<Rows<'a>, AllocError>
         requires plain { IsPlain text.now }
         requires few { count + length (records default_config text.now) ≤ most_rows }
+        // ready to be read
         ensures reading { IfOk result IsReading }
+        // exactly the records of a text
         ensures rows { IfOk result (λ rows. rows_left rows ≡ records default_config text.now) }
+        // with the numbers behind this many rows
         ensures count { IfOk result (λ rows. rows_read rows ≡ count) }
     {
         Ok(Rows {
-            records: records(alloc, text)?,
+            records: records(alloc, Delimiter::Comma, text)?,
             count,
             unended: false,
         })
@@ -110,13 +156,19 @@ impl<'a> Rows<'a> {
 }
 
 /// A reader of all records of a text. They may differ in length, and none is taken as a header.
-fn records(alloc: Global, text: &[u8]) -> Result<Box<TextRecords<'_>>, AllocError>
+fn records(
+    alloc: Global,
+    delimiter: Delimiter,
+    text: &[u8],
+) -> Result<Box<TextRecords<'_>>, AllocError>
     ensures reading { IfOk result (λ all. IsBetweenRecords all.value.reader) }
-    ensures records { IfOk result (λ all. records_left all.value.reader ≡ records_of text.now) }
+    ensures records { IfOk result
+        (λ all. records_left all.value.reader ≡ records_of delimiter text.now) }
 {
     let reader = ReaderBuilder::new()
         .has_headers(false)
         .flexible(true)
+        .delimiter(delimiter.byte())
         .from_reader(alloc, text);
     let last = ByteRecord::new(alloc);
     Ok(Box::new(alloc, TextRecords { reader, last })?)
@@ -142,24 +194,4 @@ fn want_of_memory(error: Error) -> AllocError
     requires { IsRefusedOrUnread (error_kind error) }
 {
     AllocError
-}
-
-/// Whether a record names these columns, in any ASCII case.
-fn is_header(row: &ByteRecord, columns: &[&str]) -> bool
-    ensures { IsTrue result ↔ IsHeader (map (λ c. c.now) columns.now) (fields_of row.now) }
-{
-    if row.len() != columns.len() {
-        return false;
-    }
-    for (i, column) in columns.iter().enumerate() {
-        let Some(field) = row.get(i) else {
-            return false;
-        };
-        let name = column.as_bytes();
-        let same = field.eq_ignore_ascii_case(name);
-        if !same {
-            return false;
-        }
-    }
-    true
 }

@@ -34,8 +34,11 @@ pub trait Source {
     /// the buffer is empty. If it fails, no byte is consumed.
     fn read(&mut self, buffer: &mut [u8]) -> Result<usize, Failed>
         requires { has_failed self.old ≡ false }
+        // of each source, no more bytes than the buffer has
         ensures bound { IfOk result (λ n. n ≤ length buffer.new) }
+        // the next of those that are left, and none only at their end
         ensures bytes { ReadConsumes (remaining self.old) (remaining self.new) result buffer.new }
+        // it is an error exactly where the source has failed then
         ensures failed { has_failed self.new ≡ is_err result };
 
     /// Whether a read has failed.
@@ -57,7 +60,9 @@ pub struct FromRead<R> {
 impl<R: Read> FromRead<R> {
     /// A source that hasn't failed.
     pub fn new(reader: R) -> FromRead<R>
+        // the reader's bytes are left
         ensures remaining { ⟦<FromRead<R> as Source>⟧.remaining result ≡ R.remaining reader }
+        // it hasn't failed
         ensures fresh { ⟦<FromRead<R> as Source>⟧.has_failed result ≡ false }
     {
         FromRead::with_likely_len(reader, 0)
@@ -65,6 +70,7 @@ impl<R: Read> FromRead<R> {
 
     /// A source of about `likely_len` bytes, for which memory is reserved at once.
     pub fn with_likely_len(reader: R, likely_len: usize) -> FromRead<R>
+        // as of `FromRead::new`
         ensures remaining { ⟦<FromRead<R> as Source>⟧.remaining result ≡ R.remaining reader }
         ensures fresh { ⟦<FromRead<R> as Source>⟧.has_failed result ≡ false }
     {
@@ -109,12 +115,17 @@ impl<R: Read> Source for FromRead<R> {
 /// [`MAX_FILE_BYTES`] bytes, and [`ReadFault::Memory`].
 pub fn read_all<S: Source>(alloc: Global, source: &mut S) -> Result<Vec<u8>, ReadFault>
     requires { S.has_failed source.old ≡ false }
+    // all that are left
     ensures bytes { IfOk result
         (λ all. IfSome (S.remaining source.old) (λ left. all.items ≡ left)) }
+    // at most 134,217,728
     ensures few { IfOk result (λ all. length all.items ≤ most_file_bytes) }
+    // `TooLong` comes only where there are more
     ensures too_long { IsErrOf result ReadFault.TooLong
         → IfSome (S.remaining source.old) (λ left. most_file_bytes < length left) }
+    // `Io` exactly where the reader has failed
     ensures io { IsErrOf result ReadFault.Io ↔ IsTrue (S.has_failed source.new) }
+    // no fault of what the bytes say
     ensures others { IfErr result IsReadingFault }
 {
     let mut all = Vec::with_capacity(alloc, source.likely_len().min(MAX_FILE_BYTES))?;

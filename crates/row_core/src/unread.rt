@@ -1,19 +1,18 @@
 //! The part of a layer's file that isn't read yet.
 
 ghost use Rattle.std.specs.Prelude.{◌≡◌, ◌≢◌, ◌++◌, Err, IfOk, IfErr, IfSome, IsTrue};
-ghost use Rattle.row_core.specs.LayerRows.{layer_columns};
-ghost use Rattle.row_core.specs.Rows.{AreRows, IsReading, rows_left, rows_read};
+ghost use Rattle.row_core.specs.Rows.{IsReading, rows_left, rows_read};
+ghost use Rattle.row_core.specs.Tables.{IsTable};
 ghost use Rattle.row_core.specs.Unread.{IsHeaded, IsHeaderLine, IsUnread, IsUnreadFile};
 ghost use Rattle.row_core.specs.Unread.{count_unread, records_unread};
 
 use crate::ends::{ends_with_feed, is_plain};
+use crate::header::Places;
 use crate::read_fault::ReadFault;
 use crate::rows::Rows;
 use crate::source::MAX_FILE_BYTES;
+use format_core::{Delimiter, Layout};
 use std::alloc::{AllocError, Global};
-
-/// The columns of a layer's file.
-const COLUMNS: [&str; 2] = ["id", "wkt"];
 
 /// The number of bytes of a byte order mark.
 const MARK: usize = 3;
@@ -28,23 +27,33 @@ pub enum Unread<'a> {
 }
 
 impl<'a> Unread<'a> {
-    /// The rows of a file.
-    pub fn open(alloc: Global, bytes: &'a [u8]) -> Result<Unread<'a>, ReadFault>
-        ensures ok { IfOk result (IsUnreadFile bytes.now) }
+    /// The rows of a file with this layout, and the places of the columns that are read.
+    pub fn open(
+        alloc: Global,
+        bytes: &'a [u8],
+        layout: Layout<'_>,
+    ) -> Result<(Unread<'a>, Places), ReadFault>
+        // all rows of a layer's file, whose layout says how it is read: exactly the columns
+        // `id,wkt`, or the columns with the given names, at the places where the header has them
+        ensures ok { IfOk result (λ opened. IsUnreadFile layout.entry bytes.now opened.0 opened.1) }
+        // why it has none, unless memory is refused
         ensures err { IfErr result (λ fault. fault ≢ ReadFault.Memory
-            → AreRows layer_columns bytes.now (Err fault)) }
+            → IsTable layout.entry bytes.now (Err fault)) }
+        // never `Io`
         ensures no_io { result ≢ Err ReadFault.Io }
     {
-        match behind_header(alloc, bytes) {
-            Some(text) => Ok(Unread::Text(text, 0)),
-            None => Ok(Unread::Rows(Rows::open(alloc, bytes, &COLUMNS)?)),
+        match behind_header(alloc, bytes, layout) {
+            Some((text, places)) => Ok((Unread::Text(text, 0), places)),
+            None => open_rows(alloc, bytes, layout),
         }
     }
 
     /// A reader of the rows.
     pub fn into_rows(self, alloc: Global) -> Result<Rows<'a>, AllocError>
         requires { IsUnread self }
+        // ready to be read
         ensures reading { IfOk result IsReading }
+        // the same rows with the same numbers
         ensures rows { IfOk result (λ rows. rows_left rows ≡ records_unread self.entry) }
         ensures count { IfOk result (λ rows. rows_read rows ≡ count_unread self.entry) }
     {
@@ -55,38 +64,71 @@ impl<'a> Unread<'a> {
     }
 }
 
-/// The text after the header, if the header is a line by itself.
-#[tactic(auto, using(crate::proofs::EndLemmas::header_cut))]
-fn behind_header(alloc: Global, bytes: &[u8]) -> Option<&[u8]>
-    ensures { IfSome result (λ text. IsUnreadFile bytes.now (Unread.Text text 0)) }
+/// The rows of a file, which a reader reads.
+#[tactic(auto, using(crate::proofs::EndLemmas::opened_unread))]
+fn open_rows<'a>(
+    alloc: Global,
+    bytes: &'a [u8],
+    layout: Layout<'_>,
+) -> Result<(Unread<'a>, Places), ReadFault>
+    ensures ok { IfOk result (λ opened. IsUnreadFile layout.entry bytes.now opened.0 opened.1) }
+    ensures err { IfErr result (λ fault. fault ≢ ReadFault.Memory
+        → IsTable layout.entry bytes.now (Err fault)) }
+    ensures no_io { result ≢ Err ReadFault.Io }
+{
+    let (rows, places) = Rows::open_table(alloc, bytes, layout)?;
+    Ok((Unread::Rows(rows), places))
+}
+
+/// The text after the header and the places of the columns, if commas lie between the fields and the
+/// header is a line by itself.
+fn behind_header<'a>(
+    alloc: Global,
+    bytes: &'a [u8],
+    layout: Layout<'_>,
+) -> Option<(&'a [u8], Places)>
+    ensures { IfSome result
+        (λ found. IsUnreadFile layout.entry bytes.now (Unread.Text found.0 0) found.1) }
 {
     let feed = bytes.iter().position(|byte| *byte == b'\n')?;
     let (line, rest) = bytes.split_at_checked(feed.saturating_add(1))?;
-    headed_rest(alloc, bytes, line, rest)
+    headed_rest(alloc, bytes, line, rest, layout)
 }
 
 /// The text after the first line of a file, if that line is the header and the text is plain.
-fn headed_rest<'a>(alloc: Global, bytes: &[u8], line: &[u8], rest: &'a [u8]) -> Option<&'a [u8]>
+fn headed_rest<'a>(
+    alloc: Global,
+    bytes: &[u8],
+    line: &[u8],
+    rest: &'a [u8],
+    layout: Layout<'_>,
+) -> Option<(&'a [u8], Places)>
     requires { line.now ++ rest.now ≡ bytes.now }
-    ensures { IfSome result (λ text. IsHeaded bytes.now text.now) }
+    ensures { IfSome result (λ found. IsHeaded layout.entry bytes.now found.0.now found.1) }
 {
-    if bytes.len() <= MAX_FILE_BYTES && is_header_line(alloc, line) && is_plain(rest) {
-        Some(rest)
+    let places = header_places(alloc, line, layout)?;
+    if bytes.len() <= MAX_FILE_BYTES && is_plain(rest) {
+        Some((rest, places))
     } else {
         None
     }
 }
 
-/// Whether a line consists of the header alone.
+/// The places of the columns in a line that consists of the header alone, with commas.
 #[tactic(auto, using(crate::proofs::EndLemmas::header_line))]
-fn is_header_line(alloc: Global, line: &[u8]) -> bool
-    ensures { IsTrue result → IsHeaderLine layer_columns line.now }
+fn header_places(alloc: Global, line: &[u8], layout: Layout<'_>) -> Option<Places>
+    ensures commas { IfSome result (λ places. layout.entry.delimiter ≡ Delimiter.Comma) }
+    ensures headed { IfSome result (IsHeaderLine layout.entry.columns line.now) }
 {
-    if line.len() <= MARK || !ends_with_feed(line) {
-        return false;
+    if layout.delimiter != Delimiter::Comma || line.len() <= MARK || !ends_with_feed(line) {
+        return None;
     }
-    let Ok(mut rows) = Rows::open(alloc, line, &COLUMNS) else {
-        return false;
+    let Ok((mut rows, places)) = Rows::open_table(alloc, line, layout) else {
+        return None;
     };
-    !rows.has_unended() && matches!(rows.next(), Ok(None))
+    if !rows.has_unended() && matches!(rows.next(), Ok(None)) {
+        Some(places)
+    } else {
+        None
+    }
 }

@@ -2,6 +2,7 @@ pub mod NodeLemmas
 pub mod ItemLemmas
 pub mod InsertionLemmas
 pub mod EditableTreeLemmas
+pub mod CollapseLemmas
 pub mod TreeLemmas
 pub mod WindowLemmas
 pub mod RemovalLemmas

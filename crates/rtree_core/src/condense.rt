@@ -67,17 +67,10 @@ impl EditableTree {
         ensures rooted { IsRooted self.new }
         ensures entries { entries_in self.new.root ≡ entries_in self.old.root }
     {
-        if let Some(
-            Node {
-                below: Below::Children(children),
-                ..
-            },
-        ) = &mut self.root
-        {
-            if children.len() == 1 {
-                self.root = children.pop();
-                self.height -= 1;
-            }
+        let Some(root) = &mut self.root else { return };
+        if let Some(child) = root.take_lone_child() {
+            self.root = Some(child);
+            self.height -= 1;
         }
     }
 }

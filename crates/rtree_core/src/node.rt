@@ -37,7 +37,8 @@ pub(crate) enum Below {
 }
 
 impl Node {
-    ghost use Rattle.std.specs.Prelude.{◌≡◌, ◌<◌, ◌↔◌, length, IsTrue};
+    ghost use Rattle.std.specs.Prelude.{◌≡◌, ◌≢◌, ◌<◌, ◌↔◌, [], ◌∷◌, length};
+    ghost use Rattle.std.specs.Prelude.{IsTrue, IfSome, IfNone};
     ghost use Rattle.std.specs.List.{flat_map};
     ghost use Rattle.geom_core.specs.Cells.{Meets};
     ghost use Rattle.rtree_core.specs.Nodes.{entries_of, children_of, level_of, size_of};
@@ -47,7 +48,9 @@ impl Node {
     /// Whether the node holds entries and no children: it is on level 0.
     #[tactic(auto, using(crate::proofs::Rules::is_leaf))]
     pub fn is_leaf(&self) -> bool
+        // true exactly where it holds entries
         ensures leaf { IsTrue result ↔ IsLeaf self.now }
+        // which is where it is on level 0
         ensures level { IsTrue result ↔ (level_of self.now ≡ 0) }
     {
         matches!(self.below, Below::Entries(_))
@@ -56,7 +59,9 @@ impl Node {
     /// The entries of a leaf, at least one.
     pub fn entries(&self) -> &[Entry]
         requires { IsLeaf self.now }
+        // those of a leaf
         ensures entries { result.now ≡ entries_of self.now }
+        // a lawful one has at least one
         ensures some { IsLawful self.now → 0 < length result.now }
     {
         match &self.below {
@@ -69,14 +74,32 @@ impl Node {
     #[tactic(auto, using(crate::proofs::Rules::children))]
     pub fn children(&self) -> &[Node]
         requires { IsLeaf self.now → ⊥ }
+        // those of an inner node
         ensures children { result.now ≡ children_of self.now }
+        // which together have its entries
         ensures entries { entries_of self.now ≡ flat_map entries_of result.now }
+        // are lawful where it is
         ensures lawful { IsLawful self.now → AreLawfulChildren self.now result.now }
     {
         match &self.below {
             Below::Entries(_) => unreachable!(),
             Below::Children(children) => children,
         }
+    }
+
+    /// Takes the child of an inner node that has no other.
+    pub(crate) fn take_lone_child(&mut self) -> Option<Node>
+        ensures taken { IfSome result (λ child. children_of self.old ≡ child ∷ []) }
+        ensures same { IfNone result (self.new ≡ self.old) }
+        ensures several { IfNone result (length (children_of self.old) ≢ 1) }
+    {
+        let Below::Children(children) = &mut self.below else {
+            return None
+        };
+        if children.len() != 1 {
+            return None;
+        }
+        children.pop()
     }
 
     /// The number of entries or children.
@@ -93,7 +116,9 @@ impl Node {
     #[inline(always)]
     #[tactic(auto, using(crate::proofs::WindowLemmas::lawful_cover))]
     pub fn cover(&self) -> Shape
+        // the bounding box that the node keeps
         ensures value { result ≡ node_cover self.now }
+        // the smallest that contains its entries
         ensures tight { let entries = entries_of self.now in
             IsLawful self.now → IsLeastCover (λ e. e.shape) entries result }
     {

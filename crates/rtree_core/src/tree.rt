@@ -73,9 +73,15 @@ impl RTree {
     #[tactic(auto, using(crate::proofs::PackLemmas::list_tiled))]
     pub fn pack(alloc: Global, mut entries: Vec<Entry>) -> Result<RTree, AllocError>
         requires distinct { (k : ℕ) → count_by (has_number k) entries.items ≤ 1 }
+        // exactly those of the list
         ensures entries { IfOk result (λ t. HasSame entries.items (entries_in t)) }
+        // the tree of Sort-Tile-Recursive, by any number of threads: the entries in tile order,
+        // ranked by number, are cut into the lists of the leaves, and the nodes of a level in tile
+        // order, ranked by place, into those of the nodes above, until there is one
         ensures packing { IfOk result (λ t. IfSome t (IsPackingOf entries.items)) }
+        // each node below the root has at least 4 entries or children
         ensures packed { IfOk result (λ t. IfSome t IsPacked) }
+        // it has no more levels than its entries need
         ensures height { IfOk result (λ t. IsPackedHeight (length entries.items) (height_of t)) }
     {
         tile(&mut entries);
@@ -92,6 +98,7 @@ impl RTree {
         rt: &R,
     ) -> Result<RTree, AllocError>
         requires distinct { (k : ℕ) → count_by (has_number k) entries.items ≤ 1 }
+        // as of `RTree::pack`
         ensures entries { IfOk result (λ t. HasSame entries.items (entries_in t)) }
         ensures packing { IfOk result (λ t. IfSome t (IsPackingOf entries.items)) }
         ensures packed { IfOk result (λ t. IfSome t IsPacked) }
@@ -147,7 +154,10 @@ impl RTree {
 
     /// The root, or `None` if the tree is empty.
     pub fn root(&self) -> Option<&Node>
+        // the root, or none where the tree is empty
         ensures root { option_copied result ≡ self.now }
+        // every tree keeps Guttman's bounds of 3 and 8, tight bounding boxes, and its leaves on one
+        // level
         ensures lawful { IsTree self.now }
     {
         self.tree.root.as_ref()
@@ -180,7 +190,9 @@ impl RTree {
     #[tactic(auto, using(crate::proofs::Rules::insert_tree))]
     pub fn insert(&mut self, entry: Entry) -> Result<(), AllocError>
         requires { IsFresh entry.number self.old }
+        // the entries gain exactly this one
         ensures ok { OnOk result (Gains entry (entries_in self.old) (entries_in self.new)) }
+        // where memory is refused, the tree is as it was
         ensures err { OnErr result (self.new ≡ self.old) }
     {
         self.tree.reserve_lists(1)?;
@@ -194,10 +206,13 @@ impl RTree {
     /// On an error, the tree is unchanged.
     #[tactic(auto, using(crate::proofs::TreeLemmas::tree_height))]
     pub fn remove(&mut self, entry: &Entry) -> Result<bool, AllocError>
+        // true exactly where an equal entry was held
         ensures held { let there = Contains (entries_in self.old) entry.now in
             IfOk result (λ removed. IsTrue removed ↔ there) }
+        // then the entries lose exactly that one
         ensures loses { let lost = Gains entry.now (entries_in self.new) (entries_in self.old) in
             IfOk result (λ removed. IsTrue removed → lost) }
+        // otherwise the tree is as it was
         ensures unchanged { IfOk result (λ removed. IsFalse removed → self.new ≡ self.old) }
         ensures err { OnErr result (self.new ≡ self.old) }
     {
@@ -213,6 +228,7 @@ impl RTree {
 
     /// The numbers of the entries whose shapes meet the window, ascending. A `Shape` is a window.
     pub fn window<W: Window>(&self, alloc: Global, window: &W) -> Result<Vec<u32>, AllocError>
+        // exactly the numbers of the entries that meet the window, ascending
         ensures rising { IfOk result (λ v. IsStrictlyIncreasing v.items) }
         ensures met { let window = W.shape_of window.now in
             IfOk result (λ v. AllMet window (entries_in self.now) v.items) }

@@ -3,7 +3,7 @@ use Rattle.std.proofs.Common.{◌≡◌, ℕ, List, Option, Result, Ok, Err, IsE
 use Rattle.std.proofs.Common.{refl, sym, subst, ◌∙◌, map}
 use Rattle.std.specs.Prelude.{⊤}
 use Rattle.layer_core.specs.declared.edit.Edit.{Edit as EditType}
-use Rattle.format_core.specs.Formats.{Reading}
+use Rattle.format_core.specs.Layouts.{Reading}
 use Rattle.row_core.specs.declared.read_fault.ReadFault.{ReadFault}
 use Rattle.layer_core.specs.Edits.{EditContent, Layers, both, content_of, edits_give}
 use Rattle.layer_core.specs.Layers.{Contents}
@@ -115,10 +115,6 @@ module _ {G : Type 0} (files : JoinFiles G) (layers : Layers G) (given : LayersG
   late_is_of_join NotStored late = absurd late
   late_is_of_join Memory late = (tt, (layers, given))
   late_is_of_join NoKeys late = absurd late
-
-  pub last_faults : {T : Type 0} (out : Result T RunFault) → IfErr out IsLateFault → IfErr out (IsJoinFault files)
-  last_faults (Ok x) err = tt
-  last_faults (Err e) err = late_is_of_join e err
 
 -- an error that `?` returns is one of a join's faults
 pub is_join_fault : {T : Type 0} {G : Type 0} (files : JoinFiles G) (out : Result T RunFault) (e is : RunFault) → IsErrAnd out (λ x. x ≡ e) → e ≡ is → IsJoinFault files is

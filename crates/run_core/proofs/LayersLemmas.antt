@@ -2,16 +2,16 @@
 use Rattle.std.proofs.Common.{◌≡◌, ◌≢◌, ◌<◌, ◌⊎◌, ℕ, List, Option, Some, None, Result, Ok, Err, IsErrAnd, IfSome, IfErr, length, map}
 use Rattle.std.proofs.Common.{refl, sym, subst, inl, inr}
 use Rattle.std.specs.Result.{result_err}
-use Rattle.format_core.specs.Formats.{Reading}
+use Rattle.format_core.specs.Layouts.{Reading}
 use Rattle.row_core.specs.declared.read_fault.ReadFault.{ReadFault}
 use Rattle.row_core.specs.declared.read_fault.ReadFault.TheVariants as read_faults
 use Rattle.file_core.specs.LayerFiles.{LayerRowGives}
-use Rattle.row_core.specs.LayerRows.{layer_columns}
+use Rattle.row_core.specs.LayerRows.{form_at}
 use Rattle.layer_core.specs.LayerTrees.{LayerState}
 use Rattle.layer_core.specs.Layers.{Contents, empty}
 use Rattle.row_core.specs.Limits.{most_file_bytes}
 use Rattle.row_core.specs.Sources.{IsReadingFault}
-use Rattle.row_core.proofs.FileLemmas.{file-unread}
+use Rattle.row_core.proofs.FileLemmas.{table-unread}
 use Rattle.run_core.specs.declared.fault.Input.TheVariants.{First, Second, Left, Right, Edits, Layer, Window}
 use Rattle.run_core.specs.declared.fault.RunFault.{RunFault}
 use Rattle.run_core.specs.declared.fault.RunFault.TheVariants.{NoFile, Read, Wkt, Geometry, Edit, Join, TooManyToDraw, Write, NotStored, Memory, NoKeys}
@@ -28,14 +28,14 @@ use Rattle.run_core.proofs.EditedLayersLemmas.{handed_on, IsJoinKind}
 pub unread_blamed : {G : Type 0} (format : Reading G) (known : Option (List ℕ)) (f : ReadFault) → IsReadingFault f
     → (f ≡ read_faults.TooLong → IfSome known (λ bytes. most_file_bytes < length bytes)) → BlamesBytes f → LayerFile format known (Err f)
 unread_blamed format known f reading long blame =
-    file-unread layer_columns (LayerRowGives format) empty known f reading long (λ e. subst BlamesBytes e blame) (λ e. subst BlamesBytes e blame)
+    table-unread format.layout (λ places. LayerRowGives (form_at format places)) empty known f reading long (λ e. subst BlamesBytes e blame) (λ e. subst BlamesBytes e blame)
 
 -- however it is read
 pub unread_by : {G : Type 0} (format : Reading G) (unreadable : Unreadable) (known : Option (List ℕ)) (f : ReadFault) → IsReadingFault f
     → (f ≡ read_faults.TooLong → IfSome known (λ bytes. most_file_bytes < length bytes)) → BlamesBytes f → LayerFileBy format unreadable known (Err f)
 unread_by format Refuse known f reading long blame = unread_blamed format known f reading long blame
 unread_by format Skip known f reading long blame =
-    file-unread layer_columns (LoadsRow format) (begun Skip) known f reading long (λ e. subst BlamesBytes e blame) (λ e. subst BlamesBytes e blame)
+    table-unread format.layout (λ places. LoadsRow (form_at format places)) (begun Skip) known f reading long (λ e. subst BlamesBytes e blame) (λ e. subst BlamesBytes e blame)
 
 -- a source that isn't read to its end is read as a fault
 pub unread : {G : Type 0} (format : Reading G) (known : Option (List ℕ)) (out : Result (Contents G) ReadFault) (f : ReadFault) → IsErrAnd out (λ x. x ≡ f)

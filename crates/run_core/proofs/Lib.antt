@@ -4,7 +4,7 @@ pub mod EditsLemmas
 pub mod LayersLemmas
 pub mod LineLemmas
 pub mod MarkLemmas
-pub mod ReportRunLemmas
 pub mod RunLemmas
 pub mod SkippedLemmas
 pub mod SourceLemmas
+pub mod TextRunLemmas

@@ -1,10 +1,10 @@
 -- The rows of a file whose geometries have a property.
-use Rattle.std.proofs.Common.{◌≡◌, ◌≢◌, ◌+◌, ℕ, List, [], ◌∷◌, ◌++◌, ◌-◌, ◌<◌, ◌≤◌, ap, drop, get_or, length, map, subst, sym, take, append-nil, append_assoc, ◌∙◌}
+use Rattle.std.proofs.Common.{◌≡◌, ◌≢◌, ◌+◌, ℕ, List, [], ◌∷◌, ◌++◌, ◌-◌, ◌<◌, ◌≤◌, ap, drop, get_or, length, map, subst, sym, take, append-nil, append_assoc, refl, ◌∙◌}
 use Rattle.std.proofs.Common.{Option, Some, None, Result, Ok, Err, IfErr, IsErrAnd, OnOk}
 use Rattle.std.proofs.lemmas.List.{drop-map, drop_all, drop_more, take_rest}
 use Rattle.std.proofs.lemmas.Bool.Decides.{eqb_tells}
 use Rattle.std.proofs.Common.{◌⊎◌, inl, inr}
-use Rattle.format_core.specs.Formats.{Reading}
+use Rattle.format_core.specs.Layouts.{Reading}
 use Rattle.layer_core.specs.Layers.{Contents, Feature}
 use Rattle.file_core.specs.SkippedRows.{SkippedContent, skipped_content}
 use Rattle.file_core.specs.declared.skipped.SkippedRow.{SkippedRow}
@@ -15,7 +15,7 @@ use Rattle.run_core.specs.declared.fault.RunFault.TheVariants.{Memory}
 use Rattle.run_core.specs.EditedLayers.{JoinFiles, LayersGive, IsJoinFault}
 use Rattle.run_core.specs.Inputs.{BlamesInput, LayerFile, LoadsLayer}
 use Rattle.run_core.proofs.EditedLayersLemmas.{IsJoinKind}
-use Rattle.run_core.specs.Marks.{IsOther, MarkedFrom, none, skips, marked, unmarked, SkipsTo, here, next, MarksFile, MarksLayer, numbers_of}
+use Rattle.run_core.specs.Marks.{IsOther, MarkedFrom, none, skips, marked, unmarked, SkipsTo, here, next, MarksFile, MarksLayer, MarkedLists, no_rows, numbers_of}
 
 -- numbers up to here are skipped, if those from here on are
 pub record HasSkipped (row : ℕ) (skipped : List ℕ) (n : ℕ) (left : List ℕ) : Type 0 where
@@ -113,6 +113,19 @@ module _ {G : Type 0} (IsMarked : G → Type 0) where
   pub none_marked : ((g : G) → ¬ (IsMarked g)) → (features : List (Feature G)) (n : ℕ) (left : List ℕ) → MarkedFrom IsMarked n left features []
   none_marked lacks [] n left = none
   none_marked lacks (f ∷ features) n left = one_lacks f features (lacks f.shape) (none_marked lacks features) left n
+
+  -- so there are no rows of it
+  no_row : ((g : G) → ¬ (IsMarked g)) → (n : ℕ) (left : List ℕ) (features : List (Feature G)) (rows : List ℕ) → MarkedFrom IsMarked n left features rows → rows ≡ []
+  no_row lacks n left features rows none = refl
+  no_row lacks n left features rows (skips from) = no_row lacks _ _ _ _ from
+  no_row lacks n left features rows (marked {f = f} other has from) = absurd (lacks f.shape has)
+  no_row lacks n left features rows (unmarked other not from) = no_row lacks _ _ _ _ from
+
+  pub none_listed : ((g : G) → ¬ (IsMarked g)) → (n m : ℕ) (left right : List ℕ) (lefts rights : List (Feature G)) (rows : MarkedLists)
+      → MarkedFrom IsMarked n left lefts rows.left → MarkedFrom IsMarked m right rights rows.right → rows ≡ no_rows
+  none_listed lacks n m left right lefts rights rows first second =
+      let lists : List ℕ → List ℕ → MarkedLists = λ l r. record { left = l; right = r } in
+      ap (λ l. lists l rows.right) (no_row lacks _ _ _ _ first) ∙ ap (λ r. lists [] r) (no_row lacks _ _ _ _ second)
 
   -- the rows of a file that was loaded
   pub marks_file : (reads : Reading G) (unreadable : Unreadable) (known : Option (List ℕ)) (layer : Contents G) (skipped : List SkippedContent) (rows : List ℕ)

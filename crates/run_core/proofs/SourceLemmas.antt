@@ -1,7 +1,7 @@
 -- Which source of a run over two layers has failed.
 use Rattle.std.proofs.Common.{◌≡◌, ℕ, List, Option, Some, None, Result, Ok, Err, IsErrAnd, IsErrOf, IsSomeAnd, IfSome, IsTrue, Bool, true, false, IfErr}
 use Rattle.std.proofs.Common.{◌↔◌, ◌≢◌, refl, sym, subst, ◌∙◌}
-use Rattle.format_core.specs.Formats.{Reading}
+use Rattle.format_core.specs.Layouts.{Reading}
 use Rattle.row_core.specs.declared.read_fault.ReadFault.{ReadFault}
 use Rattle.row_core.specs.declared.read_fault.ReadFault.TheVariants.{Io}
 use Rattle.layer_core.specs.Edits.{EditContent, Layers}

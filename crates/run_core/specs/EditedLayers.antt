@@ -3,7 +3,7 @@ use Rattle.std.specs.Prelude.{◌≡◌, ◌≢◌, ◌<◌, ◌≤◌, ⊤, ℕ
 use Rattle.std.specs.Prelude.{Err, IfSome, length, map, take}
 use Rattle.layer_core.specs.declared.fault.LayerFault.{LayerFault}
 use Rattle.layer_core.specs.declared.fault.LayerFault.TheVariants.{Memory as no_memory}
-use Rattle.format_core.specs.Formats.{Reading}
+use Rattle.format_core.specs.Layouts.{Reading, laid_out}
 use Rattle.row_core.specs.declared.read_fault.ReadFault.{ReadFault}
 use Rattle.row_core.specs.declared.read_fault.ReadFault.TheVariants.{Io, Memory as no_bytes}
 use Rattle.layer_core.specs.Layers.{Contents}
@@ -11,7 +11,6 @@ use Rattle.layer_core.specs.Edits.{EditContent, Layers, both, edits_give}
 use Rattle.file_core.specs.EditFiles.{IsEditFile}
 use Rattle.file_core.specs.SkippedRows.{SkippedContent, skipped_content}
 use Rattle.file_core.specs.declared.skipped.Unreadable.{Unreadable}
-use Rattle.file_core.specs.declared.skipped.Unreadable.TheVariants.{Refuse}
 use Rattle.parallel_core.specs.Faults.{IsWant}
 use Rattle.run_core.specs.declared.fault.Input.TheVariants.{Left, Right, Edits}
 use Rattle.run_core.specs.declared.fault.RunFault.{RunFault}
@@ -20,7 +19,7 @@ use Rattle.run_core.specs.declared.loaded.SkippedRows.{SkippedRows}
 use Rattle.run_core.specs.declared.sources.JoinSources.{JoinSources}
 use Rattle.run_core.specs.Inputs.{LayerFileBy, GivesLayerBy, SkipsRows, BlamesBytes, BlamesEdit}
 
--- how the geometries of a join read, what becomes of rows whose geometry doesn't, and the known
+-- how the files of a join's layers are laid out and their geometries read, what becomes of rows whose geometry doesn't, and the known
 -- bytes of its sources; there may be no file of edits
 pub record JoinFiles (G : Type 0) : Type 1 where
   pub reads : Reading G
@@ -34,21 +33,16 @@ abbrev pub bytes_of : {E : Type 0} → (E → Option (List ℕ)) → Option E �
 bytes_of remaining None = None
 bytes_of remaining (Some e) = Some (remaining e)
 
--- the known bytes of the sources, which are read in this way
+-- the known bytes of the sources, which are read in this way, the layers by the sources' layout
 abbrev pub files_by : {G A B E : Type 0} → Unreadable → Reading G → (A → Option (List ℕ))
     → (B → Option (List ℕ)) → (E → Option (List ℕ)) → JoinSources A B E → JoinFiles G
 files_by unreadable reads left_bytes right_bytes edits_bytes sources = record {
-  reads = reads;
+  reads = laid_out sources.layout reads;
   unreadable = unreadable;
   left = left_bytes sources.left;
   right = right_bytes sources.right;
   edits = bytes_of edits_bytes sources.edits;
 }
-
--- the same of files in which no row is skipped
-abbrev pub files_of : {G A B E : Type 0} → Reading G → (A → Option (List ℕ))
-    → (B → Option (List ℕ)) → (E → Option (List ℕ)) → JoinSources A B E → JoinFiles G
-files_of = files_by Refuse
 
 -- the layer of the left file or of the right one, or its fault
 abbrev pub LeftGives : {G : Type 0} → JoinFiles G → Result (Contents G) ReadFault → Type 0

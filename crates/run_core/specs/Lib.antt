@@ -3,10 +3,11 @@ pub mod EditedLayers
 pub mod FaultTexts
 pub mod ImproperRings
 pub mod Inputs
+pub mod LayerPairs
 pub mod Lines
 pub mod Marks
-pub mod ReportRuns
 pub mod Runs
 pub mod SkippedTexts
 pub mod SourceStates
+pub mod TextRuns
 pub mod Texts

@@ -1,6 +1,6 @@
 -- The rows of a layer's file whose geometries have a property.
 use Rattle.std.specs.Prelude.{◌≢◌, ◌+◌, ⊤, ℕ, List, [], ◌∷◌, Option, IfSome, Ok, map}
-use Rattle.format_core.specs.Formats.{Reading}
+use Rattle.format_core.specs.Layouts.{Reading}
 use Rattle.layer_core.specs.Layers.{Contents, Feature}
 use Rattle.file_core.specs.LayerFiles.{IsLayerFile}
 use Rattle.file_core.specs.SkippedRows.{Loaded, LoadsFile, SkippedContent}

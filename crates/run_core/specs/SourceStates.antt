@@ -1,10 +1,7 @@
 -- Which sources of a join have failed.
-use Rattle.std.specs.Prelude.{◌≡◌, ◌↔◌, Bool, false, Result, IfSome, IsTrue, IsErrOf, IsSomeAnd}
-use Rattle.row_core.specs.declared.read_fault.ReadFault.TheVariants.{Io}
+use Rattle.std.specs.Prelude.{◌≡◌, Bool, false, IfSome, IsTrue, IsSomeAnd}
 use Rattle.run_core.specs.declared.fault.Input.{Input}
 use Rattle.run_core.specs.declared.fault.Input.TheVariants.{Left, Right, Edits}
-use Rattle.run_core.specs.declared.fault.RunFault.{RunFault}
-use Rattle.run_core.specs.declared.fault.RunFault.TheVariants.{Read}
 use Rattle.run_core.specs.declared.sources.JoinSources.{JoinSources}
 
 -- none of them has failed
@@ -27,10 +24,3 @@ abbrev pub HasFailed : {A B E : Type 0} → (A → Bool) → (B → Bool) → (E
 HasFailed left_failed right_failed edits_failed sources =
     FailedAt (IsTrue (left_failed sources.left)) (IsTrue (right_failed sources.right))
     (IsSomeAnd sources.edits (λ e. IsTrue (edits_failed e)))
-
--- the result is `Io` of an input if and only if the source of this input has failed
-abbrev pub TellsFailures : {A B E T : Type 0} → (A → Bool) → (B → Bool) → (E → Bool)
-    → JoinSources A B E → Result T RunFault → Type 0
-TellsFailures left_failed right_failed edits_failed sources result =
-    (i : Input) → IsErrOf result (Read i Io)
-    ↔ HasFailed left_failed right_failed edits_failed sources i

@@ -1,68 +1,42 @@
 //! Two layers after a file of edits.
 
 ghost use Rattle.std.specs.Prelude.{◌≡◌, ◌↔◌, ◌≤◌, Ok, Err, false, map, length, IsTrue, IfOk};
-ghost use Rattle.std.specs.Prelude.{IfErr, IfSome, IsErrOf, IsSomeAnd, OnOk};
+ghost use Rattle.std.specs.Prelude.{IfErr, IfSome, IsErrOf, IsSomeAnd};
 ghost use Rattle.row_core.specs.declared.read_fault.ReadFault.{ReadFault};
 ghost use Rattle.layer_core.specs.Edits.{both, content_of};
 ghost use Rattle.row_core.specs.Limits.{most_file_bytes};
 ghost use Rattle.run_core.specs.declared.fault.Input.{Input};
-ghost use Rattle.run_core.specs.Inputs.{BlamesBytes, BlamesInput};
-ghost use Rattle.run_core.specs.EditedLayers.{EditFile, bytes_of, LayersGive, IsJoinFault};
-ghost use Rattle.run_core.specs.EditedLayers.{AreEdited, AreRowsSkipped, IsEditsFault, files_by};
-ghost use Rattle.run_core.specs.EditedLayers.{skipped_lists};
-ghost use Rattle.run_core.specs.Marks.{AreRowsMarked, MarkedFrom, marked_lists, numbers_of};
-ghost use Rattle.run_core.specs.SourceStates.{AreFresh, TellsFailures};
+ghost use Rattle.run_core.specs.Inputs.{BlamesBytes};
+ghost use Rattle.run_core.specs.EditedLayers.{AreEdited, EditFile, IsEditsFault, bytes_of};
+ghost use Rattle.run_core.specs.EditedLayers.{files_by, skipped_lists};
+ghost use Rattle.run_core.specs.Marks.{MarkedFrom, marked_lists, numbers_of};
+ghost use Rattle.run_core.specs.SourceStates.{AreFresh, HasFailed};
+ghost use Rattle.run_core.specs.TextRuns.{LoadsLayers};
 
 use crate::edits::edit_both;
 use crate::fault::{Input, RunFault};
 use crate::layers::read_layers;
 use crate::loaded::LoadedLayers;
-use crate::marks::{MarkedRows, Marks, Unmarked, marked_rows};
+use crate::marks::{MarkedRows, Marks, marked_rows};
 use crate::sources::JoinSources;
 use file_core::{LayerReader, Unreadable, read_edits};
-use format_core::Format;
+use format_core::{Format, LaidOut};
 use layer_core::{Edit, Geometry, Layer};
 use row_core::{ReadFault, Source};
 use std::alloc::Global;
 use std::hash::RandomState;
 use std::thread::Threads;
 
-/// Reads two layers and applies the edits to them. `states` hash their ids, and `unreadable` says
-/// what becomes of rows whose geometry can't be read.
+/// Reads two layers and applies the edits to them, and sets `rows` to those of the files whose
+/// geometries have a property. An edit's geometry is in none of these rows, and one that an edit
+/// deletes is. `states` hash the ids, and `unreadable` says what becomes of rows whose geometry
+/// can't be read.
 ///
 /// The left source is read first, then its layer is built while the right source is read and built,
 /// in parallel if there is more than one thread. Then the edits are read and applied in order. The
 /// first fault is returned, except that a failing right source comes before a fault in the bytes of
 /// the left.
-pub fn load_edited<R: Threads + Sync, F: Format, A: Source, B: Source, E: Source>(
-    reader: &LayerReader<'_, F, R>,
-    unreadable: Unreadable,
-    states: (RandomState, RandomState),
-    sources: &mut JoinSources<A, B, E>,
-) -> Result<LoadedLayers<F::Geometry>, RunFault>
-    requires { AreFresh A.has_failed B.has_failed E.has_failed sources.old }
-    ensures ok { let reads = F.reads reader.now.format in
-        let files = files_by unreadable reads A.remaining B.remaining E.remaining sources.old in
-        IfOk result (λ loaded.
-        LayersGive files (Ok (both loaded.layers.0.list loaded.layers.1.list))) }
-    ensures skipped { let reads = F.reads reader.now.format in
-        let files = files_by unreadable reads A.remaining B.remaining E.remaining sources.old in
-        IfOk result (λ loaded. AreRowsSkipped files (skipped_lists loaded.skipped)) }
-    ensures fault { let reads = F.reads reader.now.format in
-        let files = files_by unreadable reads A.remaining B.remaining E.remaining sources.old in
-        IfErr result (λ f. BlamesInput f → LayersGive files (Err f)) }
-    ensures faults { let reads = F.reads reader.now.format in
-        let files = files_by unreadable reads A.remaining B.remaining E.remaining sources.old in
-        IfErr result (IsJoinFault files) }
-    ensures io { TellsFailures A.has_failed B.has_failed E.has_failed sources.new result }
-{
-    let mut rows = MarkedRows::none(reader.alloc);
-    load_marked(reader, &Unmarked, unreadable, states, sources, &mut rows)
-}
-
-/// The same, and sets `rows` to those of the files whose geometries have a property. An edit's
-/// geometry is in none of these rows, and one that an edit deletes is.
-pub fn load_marked<R, F, M, A, B, E>(
+pub fn load<R, F, M, A, B, E>(
     reader: &LayerReader<'_, F, R>,
     marks: &M,
     unreadable: Unreadable,
@@ -78,32 +52,41 @@ where
     B: Source,
     E: Source,
     requires { AreFresh A.has_failed B.has_failed E.has_failed sources.old }
-    ensures ok { let reads = F.reads reader.now.format in
+    // of files in any format, both layers after the edits, in order, without the rows whose
+    // geometry doesn't read where rows are skipped, and exactly these rows, of each file in its
+    // order. On success `rows` are exactly the numbers of the rows of each file whose geometry has
+    // the property, in file order, before any edit: rows are numbered from 1 after the header, and
+    // those that were skipped have their numbers too; none if no geometry has it. A fault of an
+    // input or an edit is the first; no others come but out of memory, and none before what
+    // precedes it is good, except that a right source that fails comes before the left file's
+    // bytes; `Io` comes of exactly the source that has failed
+    ensures { let reads = F.reads reader.now.format in
         let files = files_by unreadable reads A.remaining B.remaining E.remaining sources.old in
-        IfOk result (λ loaded.
-        LayersGive files (Ok (both loaded.layers.0.list loaded.layers.1.list))) }
-    ensures skipped { let reads = F.reads reader.now.format in
-        let files = files_by unreadable reads A.remaining B.remaining E.remaining sources.old in
-        IfOk result (λ loaded. AreRowsSkipped files (skipped_lists loaded.skipped)) }
-    ensures marked { let reads = F.reads reader.now.format in
-        let files = files_by unreadable reads A.remaining B.remaining E.remaining sources.old in
-        let is_marked = M.is_marked marks.now in
-        OnOk result (AreRowsMarked is_marked files (marked_lists rows.new)) }
-    ensures fault { let reads = F.reads reader.now.format in
-        let files = files_by unreadable reads A.remaining B.remaining E.remaining sources.old in
-        IfErr result (λ f. BlamesInput f → LayersGive files (Err f)) }
-    ensures faults { let reads = F.reads reader.now.format in
-        let files = files_by unreadable reads A.remaining B.remaining E.remaining sources.old in
-        IfErr result (IsJoinFault files) }
-    ensures io { TellsFailures A.has_failed B.has_failed E.has_failed sources.new result }
+        LoadsLayers (M.is_marked marks.now) files
+        (HasFailed A.has_failed B.has_failed E.has_failed sources.new) (marked_lists rows.new)
+        result }
 {
+    let layout = sources.layout;
+    let laid = LayerReader {
+        rt: reader.rt,
+        alloc: reader.alloc,
+        format: LaidOut {
+            layout,
+            format: reader.format,
+        },
+        threads: reader.threads,
+    };
     let (left, right) = (&mut sources.left, &mut sources.right);
-    let loaded = read_layers(reader, unreadable, states, left, right)?;
+    let loaded = read_layers(&laid, unreadable, states, left, right)?;
     // Lack of memory for the rows is a fault that comes after those of the edits.
     let found = rows_of(reader.alloc, marks, &loaded);
     let LoadedLayers { layers, skipped } = loaded;
     let edits = &mut sources.edits;
-    let edited = edit_layers(reader.alloc, reader.format, states, edits, layers)?;
+    let format = LaidOut {
+        layout,
+        format: reader.format,
+    };
+    let edited = edit_layers(reader.alloc, format, states, edits, layers)?;
     *rows = found?;
     Ok(LoadedLayers {
         layers: edited,

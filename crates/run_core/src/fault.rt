@@ -37,7 +37,9 @@ impl Input {
 
     /// The name of the input in messages.
     pub fn word(self) -> &'static str
+        // the name of the input in a fault's line
         ensures word { result.now ≡ input_word self }
+        // at most 6 bytes
         ensures short { length result.now ≤ 6 }
     {
         match self {

@@ -18,6 +18,7 @@ use row_core::ReadFault;
 /// no memory.
 pub fn fault_line<S: Sink>(fault: &RunFault, sink: &mut S) -> Result<(), WriteFailed>
     requires { S.has_failed sink.old ≡ false }
+    // the line of every fault
     ensures ok { OnOk result (Appends (S.written sink.old) (S.written sink.new)
         (run_line fault.now)) }
     ensures flushed { OnOk result (IsTrue (S.is_flushed sink.new)) }

@@ -47,7 +47,10 @@ pub fn read_features<F: Format, R: Threads + Sync, S: Source>(
     source: &mut S,
 ) -> Result<FeatureList<F::Geometry>, ReadFault>
     requires { S.has_failed source.old ≡ false }
+    // the features of the layer, or the fault, that the bytes of the source give, unless memory is
+    // refused
     ensures reads { ReadsFeatures (F.reads reader.now.format) (S.remaining source.old) result }
+    // `Io` exactly where the source has failed
     ensures io { IsErrOf result ReadFault.Io ↔ IsTrue (S.has_failed source.new) }
 {
     let bytes = read_all(reader.alloc, source)?;

@@ -136,7 +136,7 @@ fn build_taken<R: Threads + Sync, F: Format>(
 }
 
 /// Frees both layers, in parallel if there is more than one worker.
-pub fn free_layers<R: Threads, G: Geometry + Send>(
+pub(crate) fn free_layers<R: Threads, G: Geometry + Send>(
     rt: &R,
     left: Layer<G>,
     right: Layer<G>,

@@ -16,14 +16,13 @@ mod sources;
 mod text;
 
 pub use csv_rows::{new_rows, push_row, rows_text};
-pub use edited::{load_edited, load_marked};
+pub use edited::load;
 pub use fault::{Input, RunFault};
 pub use fault_text::fault_line;
 pub use improper::{ImproperRings, is_improper, may_be_improper};
 pub use layer_input::read_features;
-pub use layers::free_layers;
 pub use listing::skipped_text;
-pub use loaded::{JoinText, LoadedLayers, SkippedRows, with_skipped};
+pub use loaded::{JoinText, LoadedLayers, SkippedRows};
 pub use marks::{MarkedRows, Marks, Unmarked, marked_rows};
 pub use sources::JoinSources;
 pub use text::Text;

@@ -22,6 +22,8 @@ use std::alloc::{AllocError, Global};
 /// # Errors
 /// If an allocation fails.
 pub fn skipped_text(alloc: Global, rows: &SkippedRows) -> Result<Vec<u8>, AllocError>
+    // a CSV record `side,row,id,fault`, and then one of each row, those of the left file before
+    // those of the right one: its side, its number, its id and the words of its fault
     ensures { IfOk result (λ text. text.items ≡ skipped_text (skipped_lists rows.now)) }
 {
     let mut writer = new_rows(alloc);

@@ -1,11 +1,11 @@
 //! Two layers that were read, or a text made of them, with the rows that were skipped.
 
-ghost use Rattle.std.specs.Prelude.{◌≡◌, Ok, Err, IfOk, IfErr};
-
 use crate::fault::RunFault;
+use crate::layers::free_layers;
 use crate::text::Text;
 use file_core::SkippedRow;
 use layer_core::{Geometry, Layer};
+use std::thread::Threads;
 
 /// The rows of two layers' files that were skipped, since their geometry can't be read, each list
 /// in file order.
@@ -29,17 +29,24 @@ pub struct JoinText {
     pub skipped: SkippedRows,
 }
 
-/// The text with these skipped rows, or why there is none.
-pub fn with_skipped(
-    text: Result<Text, RunFault>,
-    skipped: SkippedRows,
-) -> Result<JoinText, RunFault>
-    ensures ok { IfOk result (λ made. text ≡ Ok made.text) }
-    ensures skipped { IfOk result (λ made. made.skipped ≡ skipped) }
-    ensures err { IfErr result (λ fault. text ≡ Err fault) }
-{
-    match text {
-        Ok(text) => Ok(JoinText { text, skipped }),
-        Err(fault) => Err(fault),
+impl<G: Geometry + Send> LoadedLayers<G> {
+    ghost use Rattle.run_core.specs.TextRuns.{IsFinished};
+
+    /// The text that was made of the layers, with the rows that were skipped, or why there is none.
+    /// The layers are freed, in parallel if there is more than one worker.
+    pub fn finish<R: Threads>(
+        self,
+        rt: &R,
+        workers: u32,
+        text: Result<Text, RunFault>,
+    ) -> Result<JoinText, RunFault>
+        ensures { IsFinished text self.skipped result }
+    {
+        let LoadedLayers { layers, skipped } = self;
+        free_layers(rt, layers.0, layers.1, workers);
+        match text {
+            Ok(text) => Ok(JoinText { text, skipped }),
+            Err(fault) => Err(fault),
+        }
     }
 }

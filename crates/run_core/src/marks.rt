@@ -75,6 +75,8 @@ pub fn marked_rows<G: Geometry, M: Marks<G>>(
     features: Iter<'_, G>,
     skipped: &[SkippedRow],
 ) -> Result<Vec<u32>, AllocError>
+    // given a file's features and its skipped rows, exactly the numbers of the rows whose geometry
+    // has the property, in file order
     ensures { let numbers = numbers_of (map skipped_content skipped.now) in
         let is_marked = M.is_marked marks.now in
         IfOk result (λ rows. MarkedFrom is_marked 1 numbers features.entry rows.items) }

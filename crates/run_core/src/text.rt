@@ -24,6 +24,7 @@ impl Text {
     /// Writes and flushes the text. If the device fails, a prefix of it was written.
     pub fn write<S: Sink>(&self, sink: &mut S) -> Result<(), WriteFailed>
         requires { S.has_failed sink.old ≡ false }
+        // as `write_text` of its bytes
         ensures ok { OnOk result
             (Appends (S.written sink.old) (S.written sink.new) (bytes_of_text self.now)) }
         ensures flushed { OnOk result (IsTrue (S.is_flushed sink.new)) }

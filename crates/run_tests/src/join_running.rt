@@ -4,12 +4,14 @@ ghost use Rattle.std.specs.Prelude.{◌≡◌, false};
 ghost use Rattle.report_core.specs.ToWrite.{failed_of};
 
 use crate::example::{EDITS, LEFT, RIGHT};
-use join_core::{BoxCondition, JoinJob, run_join};
+use file_core::Unreadable;
+use format_core::Layout;
+use join_core::{BoxCondition, JoinJob, join_text};
 use pair_core::{Options, Product};
 use relation_core::{JoinRelation, Relation};
-use report_core::ToWrite;
+use report_core::{Sink, ToWrite};
 use row_core::FromRead;
-use run_core::{JoinSources, RunFault};
+use run_core::{JoinSources, JoinText, MarkedRows, RunFault};
 use std::hash::RandomState;
 use std::io;
 use std::io::{ErrorKind, Read, Write};
@@ -121,8 +123,26 @@ pub fn run<R: Threads + Wait + Sync + RandomSource + AllocGlobal, W: Write>(
         left: FromRead::new(files.left),
         right: FromRead::new(files.right),
         edits: files.edits.map(|edits| FromRead::new(edits)),
+        layout: Layout::plain(),
     };
-    Some(job.run(rt, states, &mut sources, sink))
+    let mut marked = MarkedRows::none(rt.alloc());
+    let made = join_text(
+        rt,
+        job,
+        Unreadable::Refuse,
+        states,
+        &mut sources,
+        &mut marked,
+    );
+    Some(write(made, sink))
+}
+
+/// Writes the text that a run made, or returns why there is none.
+pub fn write<S: Sink>(made: Result<JoinText, RunFault>, sink: &mut S) -> Result<(), RunFault>
+    requires { S.has_failed sink.old ≡ false }
+{
+    made?.text.write(sink)?;
+    Ok(())
 }
 
 /// The result of a run, and its output.
@@ -154,24 +174,9 @@ pub fn join<R: Threads + Wait + Sync + RandomSource + AllocGlobal>(
     relation: Relation,
     options: &Options,
 ) -> Option<Ended> {
-    let scale = Scale::new(0)?;
-    let relation = JoinRelation::new(relation).ok()?;
-    let states = (RandomState::new(rt).ok()?, RandomState::new(rt).ok()?);
+    let job = make_job(relation, *options, Product::Report)?;
     let mut sink = ToWrite::new(Vec::with_capacity(rt.alloc(), ROOM).ok()?);
-    let mut sources = JoinSources {
-        left: FromRead::new(files.left),
-        right: FromRead::new(files.right),
-        edits: files.edits.map(|edits| FromRead::new(edits)),
-    };
-    let outcome = run_join(
-        rt,
-        states,
-        scale,
-        &mut sources,
-        &relation,
-        options,
-        &mut sink,
-    );
+    let outcome = run(rt, files, &job, &mut sink)?;
     Some(Ended::new(outcome, sink.into_inner()))
 }
 

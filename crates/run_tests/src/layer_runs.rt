@@ -5,6 +5,7 @@ ghost use Rattle.report_core.specs.ToWrite.{failed_of};
 
 use crate::device::{has_front, make_device};
 use crate::example::{LEFT, RIGHT};
+use format_core::{LaidOut, Layout};
 use layer_run_core::{run_stats, run_window};
 use report_core::ToWrite;
 use row_core::FromRead;
@@ -17,6 +18,14 @@ use wkt_core::Scale;
 
 const COUNTS: &str = "features 3\npoints 1\nsegments 1\nrectangles 1\nheight 1\n";
 
+/// Boxes at scale 0, in files with the columns `id` and `wkt`.
+fn boxes() -> Option<LaidOut<'static, Scale>> {
+    Some(LaidOut {
+        layout: Layout::plain(),
+        format: Scale::new(0)?,
+    })
+}
+
 /// The result of a window over a layer into this sink.
 fn window<R: Threads + Sync + RandomSource + AllocGlobal, W: Write>(
     rt: &R,
@@ -26,13 +35,13 @@ fn window<R: Threads + Sync + RandomSource + AllocGlobal, W: Write>(
 ) -> Option<Result<(), RunFault>>
     requires { failed_of sink.old ≡ false }
 {
-    let (state, scale) = (RandomState::new(rt).ok()?, Scale::new(0)?);
+    let (state, format) = (RandomState::new(rt).ok()?, boxes()?);
     let mut layer = FromRead::new(layer.as_bytes());
     Some(run_window(
         rt,
         rt.alloc(),
         state,
-        scale,
+        format,
         &mut layer,
         wkt.as_bytes(),
         sink,
@@ -47,9 +56,9 @@ fn stats<R: Threads + Sync + RandomSource + AllocGlobal, W: Write>(
 ) -> Option<Result<(), RunFault>>
     requires { failed_of sink.old ≡ false }
 {
-    let (state, scale) = (RandomState::new(rt).ok()?, Scale::new(0)?);
+    let (state, format) = (RandomState::new(rt).ok()?, boxes()?);
     let mut layer = FromRead::new(layer.as_bytes());
-    Some(run_stats(rt, rt.alloc(), state, scale, &mut layer, sink))
+    Some(run_stats(rt, rt.alloc(), state, format, &mut layer, sink))
 }
 
 /// Whether a device of this capacity receives the prefix of a list of ids that fits.

@@ -1,6 +1,7 @@
 //! A run with each allocation refused in turn.
 
-use crate::near_running::{Ended, Files, join, join_any, search, search_any};
+use crate::join_running::Ended;
+use crate::near_running::{Files, join, join_any, search, search_any};
 use layer_core::LayerFault;
 use parallel_core::JoinFault;
 use row_core::ReadFault;

@@ -2,17 +2,20 @@
 
 ghost use Rattle.run_core.specs.SourceStates.{AreFresh};
 
+use crate::join_running::{Ended, write};
+use file_core::Unreadable;
+use format_core::{AnyFormat, Layout};
 use near_core::Nearness;
 use near_run_core::{
-    AnyNearJob, AnyNearestJob, NearJob, NearestJob, run_any_near, run_any_nearest, run_near,
-    run_nearest,
+    AnyNearestJob, NearForm, NearJob, NearestJob, any_nearest_text, near_text, nearest_text,
 };
 use nearest_core::{Distance, Query};
 use pair_core::Options;
 use plane_core::Rings;
 use report_core::ToWrite;
 use row_core::{FromRead, Source};
-use run_core::{JoinSources, RunFault};
+use run_core::{ImproperRings, JoinSources, JoinText, MarkedRows, RunFault, Unmarked};
+use std::alloc::Global;
 use std::hash::RandomState;
 use std::random::RandomSource;
 use std::sync::Wait;
@@ -25,20 +28,6 @@ pub(crate) struct Files<'a> {
     pub(crate) left: &'a str,
     pub(crate) right: &'a str,
     pub(crate) edits: Option<&'a str>,
-}
-
-/// The result of a run, and its output.
-#[derive(Drop)]
-pub(crate) struct Ended {
-    pub(crate) outcome: Result<(), RunFault>,
-    pub(crate) written: Vec<u8>,
-}
-
-impl Ended {
-    /// Whether the result and the output are these.
-    pub(crate) fn is(&self, outcome: Result<(), RunFault>, text: &str) -> bool {
-        self.outcome == outcome && self.written.as_slice() == text.as_bytes()
-    }
 }
 
 /// The join within so many units at scale 0, or `None` if there is no such distance.
@@ -60,11 +49,11 @@ fn nearest_job(most: u32, workers: u32) -> Option<NearestJob> {
     })
 }
 
-/// The capacity reserved for a report before a run, so that writing it allocates no memory.
+/// The capacity reserved for a report, so that writing it allocates no memory.
 const ROOM: usize = 200;
 
 /// The files, opened.
-type Opened<'a> = JoinSources<FromRead<&'a [u8]>, FromRead<&'a [u8]>, FromRead<&'a [u8]>>;
+type Opened<'a> = JoinSources<'a, FromRead<&'a [u8]>, FromRead<&'a [u8]>, FromRead<&'a [u8]>>;
 
 /// Opens these files.
 fn opened<'a>(files: Files<'a>) -> Opened<'a>
@@ -75,7 +64,16 @@ fn opened<'a>(files: Files<'a>) -> Opened<'a>
         left: FromRead::new(files.left.as_bytes()),
         right: FromRead::new(files.right.as_bytes()),
         edits: files.edits.map(|edits| FromRead::new(edits.as_bytes())),
+        layout: Layout::plain(),
     }
+}
+
+/// The result of a run that makes this text, and its output, or `None` if there is no memory for
+/// the report.
+fn ended(alloc: Global, made: Result<JoinText, RunFault>) -> Option<Ended> {
+    let mut sink = ToWrite::new(Vec::with_capacity(alloc, ROOM).ok()?);
+    let outcome = write(made, &mut sink);
+    Some(Ended::new(outcome, sink.into_inner()))
 }
 
 /// The run of a join of these files within so many units by `workers` workers, or `None` if there
@@ -89,12 +87,14 @@ pub(crate) fn join<R: RandomSource + AllocGlobal + Threads + Wait + Sync>(
     let job = near_job(units, workers)?;
     let states = (RandomState::new(rt).ok()?, RandomState::new(rt).ok()?);
     let mut sources = opened(files);
-    let mut sink = ToWrite::new(Vec::with_capacity(rt.alloc(), ROOM).ok()?);
-    let outcome = run_near(rt, &job, states, &mut sources, &mut sink);
-    Some(Ended {
-        outcome,
-        written: sink.into_inner(),
-    })
+    let mut marked = MarkedRows::none(rt.alloc());
+    let refuse = Unreadable::Refuse;
+    let form = NearForm {
+        format: job.scale,
+        marks: Unmarked,
+    };
+    let made = near_text(rt, &job, form, refuse, states, &mut sources, &mut marked);
+    ended(rt.alloc(), made)
 }
 
 /// The same of layers of any geometry.
@@ -104,18 +104,21 @@ pub(crate) fn join_any<R: RandomSource + AllocGlobal + Threads + Wait + Sync>(
     units: u64,
     workers: u32,
 ) -> Option<Ended> {
-    let job = AnyNearJob {
-        near: near_job(units, workers)?,
-        rings: Rings::Proper,
+    let job = near_job(units, workers)?;
+    let rings = Rings::Proper;
+    let form = NearForm {
+        format: AnyFormat {
+            scale: job.scale,
+            rings,
+        },
+        marks: ImproperRings { rings },
     };
     let states = (RandomState::new(rt).ok()?, RandomState::new(rt).ok()?);
     let mut sources = opened(files);
-    let mut sink = ToWrite::new(Vec::with_capacity(rt.alloc(), ROOM).ok()?);
-    let outcome = run_any_near(rt, &job, states, &mut sources, &mut sink);
-    Some(Ended {
-        outcome,
-        written: sink.into_inner(),
-    })
+    let mut improper = MarkedRows::none(rt.alloc());
+    let refuse = Unreadable::Refuse;
+    let made = near_text(rt, &job, form, refuse, states, &mut sources, &mut improper);
+    ended(rt.alloc(), made)
 }
 
 /// The same of a search for so many features.
@@ -128,12 +131,10 @@ pub(crate) fn search<R: RandomSource + AllocGlobal + Threads + Wait + Sync>(
     let job = nearest_job(most, workers)?;
     let states = (RandomState::new(rt).ok()?, RandomState::new(rt).ok()?);
     let mut sources = opened(files);
-    let mut sink = ToWrite::new(Vec::with_capacity(rt.alloc(), ROOM).ok()?);
-    let outcome = run_nearest(rt, &job, states, &mut sources, &mut sink);
-    Some(Ended {
-        outcome,
-        written: sink.into_inner(),
-    })
+    let mut marked = MarkedRows::none(rt.alloc());
+    let refuse = Unreadable::Refuse;
+    let made = nearest_text(rt, &job, refuse, states, &mut sources, &mut marked);
+    ended(rt.alloc(), made)
 }
 
 /// The same of a search in layers of any geometry.
@@ -149,10 +150,8 @@ pub(crate) fn search_any<R: RandomSource + AllocGlobal + Threads + Wait + Sync>(
     };
     let states = (RandomState::new(rt).ok()?, RandomState::new(rt).ok()?);
     let mut sources = opened(files);
-    let mut sink = ToWrite::new(Vec::with_capacity(rt.alloc(), ROOM).ok()?);
-    let outcome = run_any_nearest(rt, &job, states, &mut sources, &mut sink);
-    Some(Ended {
-        outcome,
-        written: sink.into_inner(),
-    })
+    let mut improper = MarkedRows::none(rt.alloc());
+    let refuse = Unreadable::Refuse;
+    let made = any_nearest_text(rt, &job, refuse, states, &mut sources, &mut improper);
+    ended(rt.alloc(), made)
 }

@@ -1,7 +1,7 @@
 //! How far geometries are apart, worked out by hand.
 
 use distance_core::Distance;
-use geometry_distance_core::{MeasuredGeometry, square_within};
+use geometry_distance_core::{GeometryIndex, MeasuredGeometry, square_within};
 use plane_core::Rings;
 use std::alloc::{AllocError, Global};
 use test_data::geometry_of;
@@ -57,8 +57,12 @@ fn have_square(
     ) else {
         return Ok(false);
     };
-    let first = MeasuredGeometry::new(alloc, a.geometry())?;
-    let second = MeasuredGeometry::new(alloc, b.geometry())?;
+    let indexes = (
+        GeometryIndex::new(alloc, a.geometry())?,
+        GeometryIndex::new(alloc, b.geometry())?,
+    );
+    let first = MeasuredGeometry::new(a.geometry(), &indexes.0);
+    let second = MeasuredGeometry::new(b.geometry(), &indexes.1);
     Ok(
         is_found(&first, &second, square, units)
             && is_found(&second, &first, square, units.saturating_add(5))

@@ -4,9 +4,13 @@
 #![tactic(auto)]
 
 #[cfg(test)]
+mod binary_readings;
+#[cfg(test)]
 mod distance_shapes;
 #[cfg(test)]
 mod distances;
+#[cfg(test)]
+mod doubles;
 #[cfg(test)]
 mod drawings;
 #[cfg(test)]

@@ -59,8 +59,10 @@ fn is_apart(e: &Edge, others: &[Edge]) -> bool
 /// The course of an edge that lies in a part of the other geometry if one is given, by the edges of
 /// that geometry near it.
 pub fn course_of(e: &Edge, part: Option<Part>, near: &[Edge]) -> Course
+    // as given
     ensures edge { result.edge ≡ e.now }
     ensures part { result.part ≡ part }
+    // where it says that the edge runs along no edge of the other geometry, it runs along none
     ensures apart { (other : Outline) → All (IsFound e.now near.now) other.edges.items
         → IsKnownApart other result }
 {
@@ -83,6 +85,7 @@ pub fn standing_of(
     requires known { IsKnownIn other.now course.now }
     requires on { is_on course.now.edge (point_of p.now) ≡ true }
     requires off { IfSome off (LiesOff other.now (point_of p.now)) }
+    // those of the other geometry, looked up or known
     ensures part { result.part ≡ outline_part other.now (point_of p.now) }
     ensures above { result.above ≡ outline_above other.now (point_of p.now) }
 {

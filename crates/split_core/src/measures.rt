@@ -39,7 +39,9 @@ pub fn cover_all<T: Covered>(items: &[T]) -> Shape
 #[inline(always)]
 #[tactic(auto, using(crate::proofs::Areas::area_grows))]
 pub fn enlargement(cover: &Shape, shape: &Shape) -> Area
+    // by how much the area grows
     ensures growth { result ≡ choices.enlargement cover.now shape.now }
+    // within the plane's area
     ensures bound { result ≤ greatest_area }
 {
     cover.cover(shape).area() - cover.area()

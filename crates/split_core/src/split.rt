@@ -64,8 +64,11 @@ struct Covers {
 /// the order of assignment (Guttman 1984, QuadraticSplit).
 pub fn split<T: Covered>(rest: &mut Vec<T>, one: &mut Vec<T>, two: &mut Vec<T>)
     requires { CanSplit rest.old one.old two.old }
+    // the lawful quadratic split of nine items into groups of 3 to 6, together exactly the items
     ensures groups { AreGroups T.cover rest.old.items one.new.items two.new.items }
+    // the list given is empty
     ensures emptied { rest.new.items ≡ [] }
+    // no list loses its room
     ensures rest_capacity { vec_capacity rest.new ≡ vec_capacity rest.old }
     ensures one_capacity { vec_capacity one.old ≤ vec_capacity one.new }
     ensures two_capacity { vec_capacity two.old ≤ vec_capacity two.new }

@@ -71,14 +71,24 @@ number_rules = scale_rule ∷ flag_rule (codes "round") ∷ []
 abbrev pub format_rules : List Rule
 format_rules = number_rules ++ geometry_rule ∷ rings_rule ∷ []
 
+-- the rules of how the files of layers are laid out, and geometries written
+abbrev pub file_rules : List Rule
+file_rules = format_rules ++ optional_rule (codes "columns") ∷ optional_rule (codes "delimiter") ∷ []
+
 -- ---- commands
 
 abbrev pub layer_rules : List Rule
 layer_rules = positional_rule (codes "LEFT") ∷ positional_rule (codes "RIGHT") ∷ []
 
+-- which output a join makes in place of its report
+abbrev pub product_rules : List Rule
+product_rules =
+    flag_rule (codes "pairs") ∷ flag_rule (codes "first") ∷ flag_rule (codes "count")
+    ∷ flag_rule (codes "unmatched") ∷ []
+
 abbrev pub relation_rules : List Rule
 relation_rules =
-    required_rule (codes "relation") ∷ flag_rule (codes "pairs") ∷ edits_rule ∷ skip_rule ∷ []
+    required_rule (codes "relation") ∷ product_rules ++ edits_rule ∷ skip_rule ∷ []
 
 abbrev pub picture_rules : List Rule
 picture_rules = required_rule (codes "relation") ∷ edits_rule ∷ skip_rule ∷ []
@@ -98,26 +108,26 @@ option_rules value =
     ∷ numeric_rule (codes "cut") (codes "2") ∷ []
 
 abbrev pub join_rules : WorkersValue → List Rule
-join_rules value = layer_rules ++ relation_rules ++ option_rules value ++ format_rules
+join_rules value = layer_rules ++ relation_rules ++ option_rules value ++ file_rules
 
 abbrev pub draw_rules : WorkersValue → List Rule
-draw_rules value = layer_rules ++ picture_rules ++ option_rules value ++ format_rules
+draw_rules value = layer_rules ++ picture_rules ++ option_rules value ++ file_rules
 
 abbrev pub near_rules : WorkersValue → List Rule
-near_rules value = layer_rules ++ distance_rules ++ option_rules value ++ format_rules
+near_rules value = layer_rules ++ distance_rules ++ option_rules value ++ file_rules
 
 abbrev pub nearest_rules : WorkersValue → List Rule
-nearest_rules value = layer_rules ++ query_rules ++ option_rules value ++ format_rules
+nearest_rules value = layer_rules ++ query_rules ++ option_rules value ++ file_rules
 
 abbrev pub relate_rules : List Rule
 relate_rules = positional_rule (codes "A") ∷ positional_rule (codes "B") ∷ format_rules
 
 abbrev pub window_rules : List Rule
-window_rules = positional_rule (codes "LAYER") ∷ positional_rule (codes "WKT") ∷ format_rules
+window_rules = positional_rule (codes "LAYER") ∷ positional_rule (codes "WKT") ∷ file_rules
 
 -- the rules of `stats` and of `bounds`
 abbrev pub layer_only_rules : List Rule
-layer_only_rules = positional_rule (codes "LAYER") ∷ format_rules
+layer_only_rules = positional_rule (codes "LAYER") ∷ file_rules
 
 abbrev pub subcommand_shape : Text → List Rule → Shape
 subcommand_shape name rules = record (new_shape name) { rules = rules }

@@ -4,6 +4,7 @@ pub(crate) const PROGRAM: &str = "\
 Layers are CSV files with the header id,wkt and one feature per row:
   id,wkt
   mill lane,\"LINESTRING (10 0, 10 10)\"
+With --columns ID,GEOMETRY they may have any columns, of which these two are read.
 
 Geometries are points, segments along an axis and rectangles, as well-known text:
   POINT (4 4)
@@ -45,6 +46,9 @@ A layer is a CSV file such as             Edits are a CSV file such as
   id,wkt                                    op,layer,id,wkt
   mill,\"LINESTRING (10 0, 10 10)\"           insert,left,inn,POINT (4 4)
 
+With --columns ID,GEOMETRY a layer may have any columns, of which these two are read; with
+--columns GEOMETRY the id of a row is its number.
+
 The path - stands for standard input, for at most one of the files.
 
 Geometries are points, segments along an axis and rectangles. With --geometry any they are points,
@@ -72,8 +76,13 @@ A mask of nine letters may replace the name, with one for each letter of the mat
 The report is CSV: left,right,matrix, and for each pair the two ids and the nine letters of DE-9IM,
 in three rows of three: interior, boundary and exterior of the left one, each with interior,
 boundary and exterior of the right one. F means that the two share nothing, and 0, 1 or 2 that they
-share points, lines or areas. With --pairs it is left,right and the two ids. Neither --workers nor
---batch nor --cut changes the report.
+share points, lines or areas. With --pairs it is left,right and the two ids. It is in the order of
+the left file, then in that of the right file, and with --first it has the first pair of each left
+feature alone. Neither --workers nor --batch nor --cut changes what is written.
+
+In place of the report, --count writes left,count, and for each left feature its id and the number
+of its pairs, and --unmatched writes left, and the id of each left feature without a pair, both in
+the order of the left file. Edits that insert a feature put it behind those of the file.
 
 A row whose geometry can't be read is a fault of its file. With --skip FILE such rows are left out:
 FILE then lists them as CSV, side,row,id,fault, and a line on standard error counts them. FILE is
@@ -86,6 +95,9 @@ pub(crate) const NEAR: &str = "\
 A layer is a CSV file such as             Edits are a CSV file such as
   id,wkt                                    op,layer,id,wkt
   mill,\"LINESTRING (10 0, 10 10)\"           insert,left,inn,POINT (4 4)
+
+With --columns ID,GEOMETRY a layer may have any columns, of which these two are read; with
+--columns GEOMETRY the id of a row is its number.
 
 The path - stands for standard input, for at most one of the files.
 
@@ -123,6 +135,9 @@ pub(crate) const NEAREST: &str = "\
 A layer is a CSV file such as             Edits are a CSV file such as
   id,wkt                                    op,layer,id,wkt
   mill,\"LINESTRING (10 0, 10 10)\"           insert,left,inn,POINT (4 4)
+
+With --columns ID,GEOMETRY a layer may have any columns, of which these two are read; with
+--columns GEOMETRY the id of a row is its number.
 
 The path - stands for standard input, for at most one of the files.
 
@@ -179,6 +194,8 @@ pub(crate) const WINDOW: &str = "\
 A layer is a CSV file such as
   id,wkt
   mill lane,\"LINESTRING (10 0, 10 10)\"
+With --columns ID,GEOMETRY a layer may have any columns, of which these two are read; with
+--columns GEOMETRY the id of a row is its number.
 The path - stands for standard input.
 
 Geometries are points, segments along an axis and rectangles. With --geometry any the features and
@@ -195,6 +212,8 @@ pub(crate) const STATS: &str = "\
 A layer is a CSV file such as
   id,wkt
   mill lane,\"LINESTRING (10 0, 10 10)\"
+With --columns ID,GEOMETRY a layer may have any columns, of which these two are read; with
+--columns GEOMETRY the id of a row is its number.
 The path - stands for standard input.
 
 Geometries are points, segments along an axis and rectangles. With --geometry any they are points,
@@ -211,6 +230,8 @@ pub(crate) const BOUNDS: &str = "\
 A layer is a CSV file such as
   id,wkt
   mill lane,\"LINESTRING (10 0, 10 10)\"
+With --columns ID,GEOMETRY a layer may have any columns, of which these two are read; with
+--columns GEOMETRY the id of a row is its number.
 The path - stands for standard input.
 
 Geometries are points, segments along an axis and rectangles. With --geometry any they are points,

@@ -43,6 +43,8 @@ struct Subcommand {
 /// # Errors
 /// An error if an allocation fails.
 pub fn usage_of<'a>(alloc: Global, words: &[&str]) -> Result<Command<'a>, AllocError>
+    // a `clap` command with exactly the rules of a literal in `specs/Usage.antt`, by which
+    // `--workers` takes any text where the words give it `auto`, and else a number
     ensures { IfOk result (HasUsage (usage_of (map (λ word. word.now) words.now))) }
 {
     let value = workers_value(words);

@@ -1,6 +1,6 @@
 -- The canonical text of a geometry that was read spells it.
 use Rattle.std.proofs.Common.{◌≡◌, inr, ℕ, suc, ◌<◌, Bool, true, false, List, [], ◌∷◌, ◌++◌, map, length, All, refl, sym, ◌∙◌, ap, ap₂, subst, arith}
-use Rattle.std.specs.Prelude.{◌==◌, codes, if◌then◌else◌}
+use Rattle.std.specs.Prelude.{◌==◌, codes, if◌then◌else◌, Option, Some, None, Ok}
 use Rattle.std.specs.List.{AllByRecursion}
 use Rattle.std.proofs.lemmas.List.{append_assoc, append-nil}
 use Rattle.plane_core.specs.declared.vertex.Vertex.{Vertex}
@@ -22,7 +22,7 @@ use Rattle.wkt_any_core.specs.declared.heading.Heading.{Heading}
 use Rattle.wkt_any_core.specs.Canonical.{separated, vertex_text, path_text, point_text, part_text, points_text, lines_text, areas_text, canonical}
 use Rattle.wkt_any_core.specs.Drawing.{position_of, positions_of, kind_for, is_kept, skips_dots, drawn, Draws}
 use Rattle.wkt_any_core.specs.Grammar.{Member, BodyBy, Words, Raw, joined}
-use Rattle.wkt_any_core.specs.Spelling.{Spells}
+use Rattle.wkt_any_core.specs.Readings.{Reads, ReadsAs}
 
 -- ---- what is drawn is drawn again as it is
 
@@ -273,17 +273,20 @@ module _ (scale : Scale) where
         allowed = d.allowed;
       }
 
-  pub canonical_spells : (rule : Rings) (from : Scale) (text : List ℕ) (g : Figure) → Spells from rule text g → Spells scale rule (canonical scale g) g
-  canonical_spells rule from text g s =
-      let draws = s.shown.draws in
+  pub canonical_reads : (rule : Rings) (keyword : Keyword) (places : Option (List (List Position))) (g : Figure) → ReadsAs rule keyword places (Ok g)
+      → Reads scale rule (canonical scale g) (Ok g)
+  canonical_reads rule keyword None g h = absurd h
+  canonical_reads rule keyword (Some lists) g (draws, proper) =
       let (is_multi, raw) = canonical_raw g draws.geometry in
       record {
-        shown = record {
+        keyword = keyword_of g;
+        places = Some (positions scale (map (map raw_of) (paths_in g)));
+        says = record {
           heading = record { is_multi = is_multi; keyword = keyword_of g };
           lists = map (map raw_of) (paths_in g);
           raw = raw;
-          good = all_good (paths_in g);
-          draws = drawn_as rule s.shown.heading.keyword (positions from s.shown.lists) g draws;
+          kind = refl;
+          placed = (all_good (paths_in g), refl);
         };
-        proper = s.proper;
+        reads = (drawn_as rule keyword lists g draws, proper);
       }

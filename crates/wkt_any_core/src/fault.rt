@@ -25,7 +25,9 @@ impl GeometryFault {
 
     /// The fault in a few words, at most 70 bytes.
     pub fn text(&self) -> &'static str
+        // the words of the fault
         ensures text { result.now ≡ geometry_text self.now }
+        // at most 70 bytes
         ensures short { length result.now ≤ 70 }
     {
         match self {

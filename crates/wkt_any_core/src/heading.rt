@@ -4,9 +4,9 @@ use wkt_core::{Keyword, skip_word};
 
 /// The kind of a geometry as its text names it: a single point, polyline or polygon, or many.
 #[derive(Clone, Copy)]
-pub(crate) struct Heading {
-    pub(crate) is_multi: bool,
-    pub(crate) keyword: Keyword,
+pub struct Heading {
+    pub is_multi: bool,
+    pub keyword: Keyword,
 }
 
 impl Heading {

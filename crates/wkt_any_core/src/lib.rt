@@ -23,9 +23,13 @@ mod heading;
 mod list;
 mod paths;
 mod printer;
+mod raw;
 mod reader;
 
 pub use fault::GeometryFault;
+pub use heading::Heading;
+pub use paths::Paths;
 pub use plane_core::Rings;
 pub use printer::print;
+pub use raw::RawGeometry;
 pub use reader::read;

@@ -1,19 +1,20 @@
 //! The vertices of all paths of a text, collected as they are read.
 
 ghost use Rattle.std.specs.Prelude.{◌≡◌};
+ghost use Rattle.wkt_any_core.specs.Drawing.{skips_dots};
 ghost use Rattle.number_core.specs.declared.scale.Scale.{Scale};
 ghost use Rattle.wkt_core.specs.Grammar.{RawPoint};
 ghost use Rattle.wkt_core.specs.PointSteps.{point_read};
 ghost use Rattle.wkt_any_core.specs.Held.{IsVertexOf};
 
-use plane_core::Vertex;
+use plane_core::{Rings, Vertex};
 use std::alloc::{AllocError, Global};
-use wkt_core::ReadPoint;
+use wkt_core::{Keyword, ReadPoint};
 
 /// The concatenated vertices of all paths and the end of each path, with the path that is being
 /// read.
 #[derive(Drop)]
-pub(crate) struct Paths {
+pub struct Paths {
     pub(crate) vertices: Vec<Vertex>,
     pub(crate) ends: Vec<u32>,
     /// The vertices of the path that is being read.
@@ -22,6 +23,16 @@ pub(crate) struct Paths {
     pub(crate) are_good: bool,
     /// Whether a path whose points are all equal is left out.
     skips_dots: bool,
+}
+
+/// Whether rings whose points are all equal are left out.
+fn skips_dots(rings: Rings, keyword: Keyword) -> bool
+    ensures { result ≡ skips_dots rings keyword }
+{
+    match keyword {
+        Keyword::Polygon => rings == Rings::EvenOdd,
+        _ => false,
+    }
 }
 
 /// The vertex of a point that was read, if its numbers are whole and in range.
@@ -37,16 +48,19 @@ fn vertex_of(point: &ReadPoint) -> Option<Vertex>
 }
 
 impl Paths {
-    ghost use Rattle.std.specs.Prelude.{◌≡◌, ◌++◌, ◌∷◌, [], Bool, List, OnOk};
+    ghost use Rattle.std.specs.Prelude.{◌≡◌, OnOk};
     ghost use Rattle.number_core.specs.declared.scale.Scale.{Scale};
     ghost use Rattle.wkt_core.specs.Grammar.{RawPoint};
     ghost use Rattle.wkt_core.specs.PointSteps.{point_read};
-    ghost use Rattle.wkt_any_core.specs.Held.{IsRead, AddsPoint, IsStepped, IsKept, IsTaken};
+    ghost use Rattle.wkt_any_core.specs.Drawing.{skips_dots};
+    ghost use Rattle.wkt_any_core.specs.Held.{AddsPoint, IsAdded, IsBare, IsEnded, IsStepped};
+    ghost use Rattle.wkt_any_core.specs.Held.{IsKept, IsTaken};
 
-    /// No paths; nothing has been read.
-    pub(crate) fn new(alloc: Global, skips_dots: bool) -> Paths
-        ensures { (scale : Scale) → IsRead scale skips_dots result [] [] }
+    /// No paths of a geometry of this kind; nothing has been read.
+    pub fn new(alloc: Global, keyword: Keyword, rings: Rings) -> Paths
+        ensures { IsBare result (skips_dots rings keyword) }
     {
+        let skips_dots = skips_dots(rings, keyword);
         Paths {
             vertices: Vec::new(alloc),
             ends: Vec::new(alloc),
@@ -70,18 +84,31 @@ impl Paths {
         Ok(())
     }
 
-    /// Adds a point to the path that is being read.
-    pub(crate) fn push(&mut self, point: &ReadPoint) -> Result<(), AllocError>
-        ensures { OnOk result ((scale : Scale) (p : RawPoint)
-            → point.now ≡ point_read scale p → AddsPoint scale self.old p self.new) }
+    /// Extends the path to the vertex of a point, or notes that the point has none.
+    ///
+    /// # Errors
+    /// If an allocation fails.
+    pub fn add(&mut self, vertex: Option<Vertex>) -> Result<(), AllocError>
+        // the path that is being read goes to the vertex, unless it is there already; where there
+        // is none, the paths are bad
+        ensures { OnOk result (IsAdded self.old vertex self.new) }
     {
-        match vertex_of(point) {
+        match vertex {
             Some(vertex) => self.step_to(vertex),
             None => {
                 self.are_good = false;
                 Ok(())
             }
         }
+    }
+
+    /// Adds a point to the path that is being read.
+    pub(crate) fn push(&mut self, point: &ReadPoint) -> Result<(), AllocError>
+        ensures { OnOk result ((scale : Scale) (p : RawPoint)
+            → point.now ≡ point_read scale p → AddsPoint scale self.old p self.new) }
+    {
+        let vertex = vertex_of(point);
+        self.add(vertex)
     }
 
     /// Adds the path that was read to those before it.
@@ -113,10 +140,13 @@ impl Paths {
     }
 
     /// Ends the path that is being read.
-    pub(crate) fn end_path(&mut self) -> Result<(), AllocError>
-        ensures { OnOk result ((scale : Scale) (skips : Bool) (before : List (List RawPoint))
-            (ps : List RawPoint) → IsRead scale skips self.old before ps
-            → IsRead scale skips self.new (before ++ ps ∷ []) []) }
+    ///
+    /// # Errors
+    /// If an allocation fails, or there are 2^32 vertices or more.
+    pub fn end_path(&mut self) -> Result<(), AllocError>
+        // the path that was read stands behind those before, unless it is a single point of a
+        // polygon and the rule leaves it out
+        ensures { OnOk result (IsEnded self.old self.new) }
     {
         let is_dot = self.open.len() == 1;
         let is_left_out = self.skips_dots & is_dot;

@@ -1,14 +1,15 @@
 //! Printing a geometry.
 
-ghost use Rattle.std.specs.Prelude.{◌≡◌, ◌++◌, List, ℕ, IfOk, OnOk, codes};
+ghost use Rattle.std.specs.Prelude.{◌≡◌, ◌++◌, List, Option, Ok, IfOk, OnOk, codes};
 ghost use Rattle.std.specs.String.{string_bytes};
 ghost use Rattle.plane_core.specs.declared.rings.Rings.{Rings};
 ghost use Rattle.plane_core.specs.Vertices.{paths_in};
-ghost use Rattle.number_core.specs.declared.scale.Scale.{Scale};
+ghost use Rattle.wkt_core.specs.declared.keyword.Keyword.{Keyword};
+ghost use Rattle.wkt_core.specs.declared.position.Position.{Position};
 ghost use Rattle.wkt_any_core.specs.Canonical.{separated, separator, vertex_text, path_text};
 ghost use Rattle.wkt_any_core.specs.Canonical.{point_text, points_text, lines_text, areas_text};
 ghost use Rattle.wkt_any_core.specs.Canonical.{part_text, canonical};
-ghost use Rattle.wkt_any_core.specs.Spelling.{Spells};
+ghost use Rattle.wkt_any_core.specs.Readings.{Reads, ReadsAs};
 
 use plane_core::{Geometry, Vertex};
 use std::alloc::{AllocError, Global};
@@ -196,12 +197,15 @@ fn push_geometry(text: &mut String, geometry: &Geometry, scale: Scale) -> Result
 /// # Errors
 /// If an allocation fails.
 pub fn print(alloc: Global, geometry: &Geometry, scale: Scale) -> Result<String, AllocError>
+    // the canonical spelling at the scale
     ensures text { IfOk result (λ text. string_bytes text ≡ canonical scale geometry.now) }
     // A geometry that was read, by any rule and at any scale, is printed such that it reads the
     // same.
-    ensures again { (rings : Rings) (from : Scale) (read : List ℕ)
-        → Spells from rings read geometry.now
-        → Spells scale rings (canonical scale geometry.now) geometry.now }
+    // a geometry that was read is spelled by it, under the same rule for rings and at any scale, so
+    // that it is read again
+    ensures again { (rings : Rings) (keyword : Keyword) (places : Option (List (List Position)))
+        → ReadsAs rings keyword places (Ok geometry.now)
+        → Reads scale rings (canonical scale geometry.now) (Ok geometry.now) }
 {
     let mut text = String::new(alloc);
     push_geometry(&mut text, geometry, scale)?;

@@ -1,43 +1,22 @@
 //! Reading a text.
 
-ghost use Rattle.std.specs.Prelude.{◌≡◌, ◌↔◌, List, ℕ, IfOk, IfErr, IfSome, IfNone, IsTrue, Result};
+ghost use Rattle.std.specs.Prelude.{◌≡◌, List, ℕ, Option, IfOk, IfSome, IfNone, Result};
 ghost use Rattle.plane_core.specs.Figures.{Figure};
-ghost use Rattle.plane_core.specs.ProperRings.{TakesRings};
-ghost use Rattle.wkt_core.specs.Grammar.{RawPoint};
+ghost use Rattle.wkt_core.specs.declared.keyword.Keyword.{Keyword};
+ghost use Rattle.wkt_core.specs.declared.position.Position.{Position};
 ghost use Rattle.wkt_any_core.specs.declared.fault.GeometryFault.{GeometryFault};
-ghost use Rattle.wkt_any_core.specs.declared.heading.Heading.{Heading};
 ghost use Rattle.wkt_any_core.specs.Held.{IsRawText};
-ghost use Rattle.wkt_any_core.specs.Readings.{Reads, IsReading};
-ghost use Rattle.wkt_any_core.specs.Steps.{TakesText};
-ghost use Rattle.wkt_any_core.specs.Drawing.{skips_dots};
-ghost use Rattle.wkt_any_core.specs.Spelling.{Shows};
+ghost use Rattle.wkt_any_core.specs.Readings.{Reads};
+ghost use Rattle.wkt_any_core.specs.Spelling.{SaysText};
 
 use crate::body::read_body;
 use crate::fault::GeometryFault;
-use crate::figure::geometry_of;
 use crate::heading::Heading;
 use crate::paths::Paths;
+use crate::raw::RawGeometry;
 use plane_core::{Geometry, Rings};
-use ring_core::has_proper_rings;
 use std::alloc::{AllocError, Global};
-use wkt_core::{Keyword, Scale, skip_blanks};
-
-/// The keyword of a text of the grammar, and the paths read from its lists.
-#[derive(Drop)]
-pub(crate) struct RawText {
-    keyword: Keyword,
-    paths: Paths,
-}
-
-/// Whether rings whose points are all equal are left out.
-fn skips_dots(rings: Rings, keyword: Keyword) -> bool
-    ensures { result ≡ skips_dots rings keyword }
-{
-    match keyword {
-        Keyword::Polygon => rings == Rings::EvenOdd,
-        _ => false,
-    }
-}
+use wkt_core::{Scale, skip_blanks};
 
 /// The keyword of the text and the paths of its lists, if the text is in the grammar.
 fn read_raw(
@@ -45,81 +24,27 @@ fn read_raw(
     text: &[u8],
     scale: Scale,
     rings: Rings,
-) -> Result<Option<RawText>, AllocError>
+) -> Result<Option<RawGeometry>, AllocError>
     ensures some { IfOk result (λ read. IfSome read (IsRawText scale rings text.now)) }
-    ensures none { IfOk result (λ read. IfNone read ((heading : Heading)
-        (lists : List (List RawPoint)) → TakesText scale text.now heading lists → ⊥)) }
+    ensures none { IfOk result (λ read. IfNone read ((keyword : Keyword)
+        (places : Option (List (List Position))) → SaysText scale text.now keyword places → ⊥)) }
 {
     let start = skip_blanks(text);
     let Some((heading, rest)) = Heading::read(start) else {
         return Ok(None);
     };
-    let mut paths = Paths::new(alloc, skips_dots(rings, heading.keyword));
+    let mut paths = Paths::new(alloc, heading.keyword, rings);
     let body = skip_blanks(rest);
     let Some(rest) = read_body(heading, body, scale, &mut paths)? else {
         return Ok(None);
     };
     let end = skip_blanks(rest);
     match end {
-        [] => Ok(Some(RawText {
+        [] => Ok(Some(RawGeometry {
             keyword: heading.keyword,
             paths,
         })),
         _ => Ok(None),
-    }
-}
-
-/// The geometry of a text from its raw form, or the text's fault.
-fn shown(
-    text: &[u8],
-    scale: Scale,
-    rings: Rings,
-    read: Option<RawText>,
-) -> Result<Geometry, GeometryFault>
-    requires some { IfSome read (IsRawText scale rings text.now) }
-    requires none { IfNone read ((heading : Heading) (lists : List (List RawPoint))
-        → TakesText scale text.now heading lists → ⊥) }
-    ensures ok { IfOk result (Shows scale rings text.now) }
-    ensures err { IfErr result (λ fault. IsReading scale rings text.now (Err fault)) }
-{
-    let Some(raw) = read else {
-        return Err(GeometryFault::Text);
-    };
-    if !raw.paths.are_good {
-        return Err(GeometryFault::Number);
-    }
-    match geometry_of(raw.keyword, raw.paths, rings) {
-        Some(geometry) => Ok(geometry),
-        None => Err(GeometryFault::Form),
-    }
-}
-
-/// Whether the rings of a geometry are proper, if they have to be.
-fn takes_rings(alloc: Global, geometry: &Geometry, rings: Rings) -> Result<bool, AllocError>
-    ensures { IfOk result (λ is_taken. IsTrue is_taken ↔ TakesRings rings geometry.now) }
-{
-    match rings {
-        Rings::Proper => has_proper_rings(alloc, geometry),
-        Rings::EvenOdd => Ok(true),
-    }
-}
-
-/// The geometry, if the rule allows its rings, or else their fault.
-fn answer(
-    alloc: Global,
-    text: &[u8],
-    scale: Scale,
-    rings: Rings,
-    geometry: Geometry,
-) -> Result<Result<Geometry, GeometryFault>, AllocError>
-    requires { Shows scale rings text.now geometry }
-    ensures { IfOk result (IsReading scale rings text.now) }
-{
-    let is_taken = takes_rings(alloc, &geometry, rings)?;
-    if is_taken {
-        Ok(Ok(geometry))
-    } else {
-        Ok(Err(GeometryFault::Rings))
     }
 }
 
@@ -149,13 +74,16 @@ pub fn read(
     scale: Scale,
     rings: Rings,
 ) -> Result<Result<Geometry, GeometryFault>, AllocError>
+    // the answer is what the text reads as, the geometry that it spells at the scale, with rings
+    // that the rule allows, or the first of four faults, the last of which is that rings have to be
+    // proper and aren't
     ensures reads { IfOk result (λ answer. Reads scale rings text.now answer) }
+    // nothing else is
     ensures only { IfOk result (λ answer. (other : Result Figure GeometryFault)
         → Reads scale rings text.now other → answer ≡ other) }
 {
-    let raw = read_raw(alloc, text, scale, rings)?;
-    match shown(text, scale, rings, raw) {
-        Ok(geometry) => answer(alloc, text, scale, rings, geometry),
-        Err(fault) => Ok(Err(fault)),
-    }
+    let Some(raw) = read_raw(alloc, text, scale, rings)? else {
+        return Ok(Err(GeometryFault::Text));
+    };
+    raw.geometry(alloc, rings)
 }

@@ -117,5 +117,3 @@ module _ (scale : Scale) (ps : List RawPoint) (p : RawPoint) (point : ReadPoint)
 
   pub read_beyond : point.position ≡ None → new.in_range ≡ false → IsReadOf scale new (ps ++ p ∷ [])
   read_beyond e range = more_beyond scale ps p old marked new read here_marked same (sym (ap (λ r. r.position) is) ∙ e) range
-
-pub ruleset read_more = (marked_bad, marked_good, read_within, read_beyond)

@@ -22,7 +22,9 @@ impl WktFault {
 
     /// The fault in a few words, at most 50 bytes.
     pub fn text(&self) -> &'static str
+        // the words of the fault
         ensures text { result.now ≡ wkt_text self.now }
+        // at most 50 bytes
         ensures short { length result.now ≤ 50 }
     {
         match self {

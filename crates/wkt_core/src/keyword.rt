@@ -17,7 +17,9 @@ impl Keyword {
     /// The keyword at the start of a text, in any case, and the text after it.
     #[inline(always)]
     pub fn read(text: &[u8]) -> Option<(Keyword, &[u8])>
+        // the keyword at the front and the text behind it
         ensures some { IfSome result (λ r. TakesWord text.now r.0 r.1.now) }
+        // only where there is none
         ensures none { IfNone result
             ((keyword : Keyword) (rest : List ℕ) → TakesWord text.now keyword rest → ⊥) }
     {

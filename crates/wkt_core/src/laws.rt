@@ -15,9 +15,11 @@ ghost use Rattle.wkt_core.specs.Spelling.{Spells};
 
 /// A text has at most one raw form and spells at most one shape, at a given scale.
 pub fn one_shape_law()
+    // a text has at most one raw form at a scale
     ensures one_raw_form { (scale : Scale) (text : List ℕ) (k l : Keyword)
         (xs ys : List (List RawPoint)) → Raw scale text k xs → Raw scale text l ys
         → (k ≡ l) × (xs ≡ ys) }
+    // it spells at most one shape at a scale
     ensures one_shape { (scale : Scale) (text : List ℕ) (s t : Shape)
         → Spells scale text s → Spells scale text t → s ≡ t }
 {}
@@ -25,6 +27,8 @@ pub fn one_shape_law()
 /// Lists of two and of five points that formed a shape before longer lists were read still form it.
 #[tactic(auto, using(crate::proofs::DrawnLemmas::drawn_still))]
 pub fn widened_law()
+    // what lists of two and of five points draw alone is drawn the same by the rule that allows
+    // more points
     ensures drawn_still { (keyword : Keyword) (ps : List Position) (s : Shape)
         → DrewBefore keyword ps s → Draws keyword ps s }
 {}
@@ -33,13 +37,15 @@ pub fn widened_law()
 /// spells it at scale 0.
 #[tactic(auto, using(crate::proofs::MigrationLemmas::spelled_still))]
 pub fn migration_law()
+    // what a text spelled when numbers were whole and within 10^9, and lists had one, two or five
+    // points, it spells at scale 0
     ensures spelled_still { (scale : Scale) (text : List ℕ) (s : Shape)
         → digits_of scale ≡ 0 → SpelledBefore text s → Spells scale text s }
 {}
 
 /// A text that spells a shape at a scale without rounding spells it with rounding, too.
-#[tactic(auto, using(crate::proofs::PlainLemmas::spelled_alike))]
 pub fn rounding_law()
+    // what a text spells at a scale without rounding it spells at one with it, of as many decimals
     ensures spelled_alike { (exact scale : Scale) (text : List ℕ) (s : Shape)
         → rounding_of exact ≡ Exact → digits_of scale ≡ digits_of exact
         → Spells exact text s → Spells scale text s }

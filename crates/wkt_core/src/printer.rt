@@ -85,10 +85,11 @@ fn push_shape(text: &mut String, shape: &Shape, scale: Scale) -> Result<(), Allo
 ///
 /// # Errors
 /// If an allocation fails.
-#[tactic(auto, using(crate::proofs::CanonicalLemmas::canonical_spells))]
 pub fn print(alloc: Global, shape: &Shape, scale: Scale) -> Result<String, AllocError>
+    // the canonical spelling at the scale
     ensures text { IfOk result (λ text. string_bytes text ≡ canonical scale shape.now) }
     // Reading the text gives the shape.
+    // which spells the shape
     ensures spells { Spells scale (canonical scale shape.now) shape.now }
 {
     let mut text = String::with_capacity(alloc, LONGEST)?;

@@ -33,7 +33,6 @@ impl ReadList {
 
     /// Adds a point.
     #[inline(always)]
-    #[tactic(auto, using(crate::proofs::ReadListLemmas::read_more))]
     pub(crate) fn push(&mut self, point: ReadPoint)
         ensures { (scale : Scale) (ps : List RawPoint) (p : RawPoint) → IsReadOf scale self.old ps
             → point ≡ point_read scale p → IsReadOf scale self.new (ps ++ p ∷ []) }

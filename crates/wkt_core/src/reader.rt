@@ -42,7 +42,10 @@ use number_core::Scale;
 ///   of positive width and height: through its four corners and any points within its sides, in
 ///   order, from any of them, in either direction.
 pub fn read(text: &[u8], scale: Scale) -> Result<Shape, WktFault>
+    // the answer is what the text reads as, the shape that it spells at the scale or the first of
+    // three faults
     ensures reads { Reads scale text.now result }
+    // nothing else is
     ensures only { (answer : Result Shape WktFault)
         → Reads scale text.now answer → result ≡ answer }
 {

@@ -84,6 +84,8 @@ fn read_symbol(text: &[u8]) -> Option<Next<'_>>
 /// The token after an item and its white space, of which there mostly is none.
 #[inline(always)]
 pub fn read_next(text: &[u8]) -> Option<Next<'_>>
+    // the text behind a comma or a closing parenthesis and the white space before it, or none where
+    // neither stands there
     ensures { StandsNext (skip text.now) result }
 {
     match read_symbol(text) {
@@ -95,7 +97,9 @@ pub fn read_next(text: &[u8]) -> Option<Next<'_>>
 /// The text after this word in any ASCII case, or `None` if it doesn't start with it.
 #[inline(always)]
 pub fn skip_word<'a>(text: &'a [u8], word: &[u8]) -> Option<&'a [u8]>
+    // the text behind this word, in any case
     ensures some { IfSome result (λ rest. TakesLetters word.now text.now rest.now) }
+    // only where it doesn't stand there
     ensures none { IfNone result ((rest : List ℕ) → TakesLetters word.now text.now rest → ⊥) }
 {
     let (front, rest) = text.split_at_checked(word.len())?;

@@ -21,7 +21,6 @@ fn is_inside(a: i64, b: i64, c: i64) -> bool
 
 /// Whether the second point is strictly between the first and the third on a vertical line.
 #[inline(always)]
-#[tactic(auto, using(crate::proofs::HeldLemmas::held))]
 fn is_vertical(p: &Position, q: &Position, r: &Position) -> bool
     ensures { result ≡ is_vertical p.now q.now r.now }
 {
@@ -30,7 +29,6 @@ fn is_vertical(p: &Position, q: &Position, r: &Position) -> bool
 
 /// Whether the second point is strictly between the first and the third on a horizontal line.
 #[inline(always)]
-#[tactic(auto, using(crate::proofs::HeldLemmas::held))]
 fn is_horizontal(p: &Position, q: &Position, r: &Position) -> bool
     ensures { result ≡ is_horizontal p.now q.now r.now }
 {

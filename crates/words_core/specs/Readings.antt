@@ -1,6 +1,6 @@
 -- How the words of the command line are read, from the matches of `clap`.
 use Rattle.std.specs.Prelude.{◌≡◌, ◌≢◌, ◌<◌, ◌≤◌, ⊤, ◌⊎◌, ◌&&◌, ◌||◌, ℕ, Bool, true, false, List}
-use Rattle.std.specs.Prelude.{[], ◌∷◌, ◌++◌, length, Option, Some, None, Result, Ok, Err, codes}
+use Rattle.std.specs.Prelude.{[], ◌∷◌, ◌++◌, length, get_or, Option, Some, None, Result, Ok, Err, codes}
 use Rattle.std.specs.Prelude.{if◌then◌else◌, find, nat_le, nat_eq, option_map, option_and_then}
 use Rattle.std.specs.Prelude.{string_bytes}
 use Rattle.std.specs.Bool.{MatchBool}
@@ -36,9 +36,17 @@ use Rattle.pair_core.specs.Options.{workers_of, batch_of, cut_of, AreWorkers, Is
 use Rattle.pair_core.specs.declared.options.Options.{Options}
 use Rattle.pair_core.specs.declared.options.OptionFault.TheVariants as range
 use Rattle.pair_core.specs.declared.product.Product.{Product}
-use Rattle.pair_core.specs.declared.product.Product.TheVariants.{Report, Pairs, Picture}
+use Rattle.pair_core.specs.declared.product.Product.TheVariants.{Report, Pairs, Firsts}
+use Rattle.pair_core.specs.declared.product.Product.TheVariants.{FirstPairs, Counts, Unmatched}
+use Rattle.pair_core.specs.declared.product.Product.TheVariants.{Picture}
 use Rattle.plane_core.specs.declared.rings.Rings.{Rings}
 use Rattle.plane_core.specs.declared.rings.Rings.TheVariants.{Proper, EvenOdd}
+use Rattle.format_core.specs.declared.layout.Columns.{Columns}
+use Rattle.format_core.specs.declared.layout.Columns.TheVariants as columns
+use Rattle.format_core.specs.declared.layout.Columns.TheVariants.{Named}
+use Rattle.format_core.specs.declared.layout.Delimiter.{Delimiter}
+use Rattle.format_core.specs.declared.layout.Delimiter.TheVariants.{Comma, Semicolon, Tab}
+use Rattle.format_core.specs.declared.layout.Layout.{Layout}
 use Rattle.usage_core.specs.Usage.{usage_of}
 use Rattle.words_core.specs.Conditions.{ForbidsDisjoint, HoldsForDisjoint, geometries_of}
 use Rattle.words_core.specs.Conditions.{relation_of}
@@ -122,8 +130,40 @@ pub record IsRelateIn (rows : List Row) (request : RelateRequest) : Type 0 where
   pub scale : IsScaleIn rows request.scale
   pub geometries : AreGeometriesIn rows request.geometries
 
+-- the word of `--delimiter`, if one is given, names this character; a comma needs no word
+abbrev pub NamesDelimiter : Option Text → Delimiter → Type 0
+NamesDelimiter None Comma = ⊤
+NamesDelimiter None Semicolon = ⊥
+NamesDelimiter None Tab = ⊥
+NamesDelimiter (Some word) Comma = word ≡ codes ","
+NamesDelimiter (Some word) Semicolon = word ≡ codes ";"
+NamesDelimiter (Some word) Tab = (word ≡ codes "tab") ⊎ (word ≡ codes "\t")
+
+-- the names of the columns of ids and of geometries, on either side of the first comma of a word
+pub record ArePartedAt (word id geometry : Text) : Type 0 where
+  pub parted : word ≡ id ++ 44 ∷ geometry
+  pub first : (place : ℕ) → place < length id → get_or id place 0 ≢ 44
+
+-- a word without a comma names the column of geometries alone
+abbrev pub AreColumnNames : Text → Columns → Type 0
+AreColumnNames word columns.Exact = ⊥
+AreColumnNames word (Named None geometry) =
+    ((place : ℕ) → place < length word → get_or word place 0 ≢ 44) × (geometry.now ≡ word)
+AreColumnNames word (Named (Some id) geometry) = ArePartedAt word id.now geometry.now
+
+-- the word of `--columns`, if one is given, names the columns
+abbrev pub NamesColumns : Option Text → Columns → Type 0
+NamesColumns None columns.Exact = ⊤
+NamesColumns None (Named id geometry) = ⊥
+NamesColumns (Some word) named = AreColumnNames word named
+
+pub record IsLayoutIn (rows : List Row) (layout : Layout) : Type 0 where
+  pub delimiter : NamesDelimiter (first_of (codes "delimiter") rows) layout.delimiter
+  pub columns : NamesColumns (first_of (codes "columns") rows) layout.columns
+
 pub record IsLayerIn (rows : List Row) (layer : LayerRequest) : Type 0 where
   pub path : first_of (codes "LAYER") rows ≡ Some layer.path.now
+  pub layout : IsLayoutIn rows layer.layout
   pub scale : IsScaleIn rows layer.scale
   pub geometries : AreGeometriesIn rows layer.geometries
 
@@ -164,7 +204,7 @@ abbrev pub text_in : Option (Bor Text) → Option Text
 text_in = option_map (λ text. text.now)
 
 -- the paths of the files of a join, of which at most one is standard input, and of the list of
--- skipped rows, which is another file
+-- skipped rows, which is another file, and the layout of the layers' files
 pub record ArePathsIn (rows : List Row) (paths : LayerPaths) : Type 0 where
   pub left : first_of (codes "LEFT") rows ≡ Some paths.left.now
   pub right : first_of (codes "RIGHT") rows ≡ Some paths.right.now
@@ -173,12 +213,32 @@ pub record ArePathsIn (rows : List Row) (paths : LayerPaths) : Type 0 where
   pub skip : first_of (codes "skip") rows ≡ text_in paths.skip
   pub free : is_taken paths.left.now paths.right.now (text_in paths.edits) (text_in paths.skip)
       ≡ false
+  pub layout : IsLayoutIn rows paths.layout
 
--- the report is one of pairs alone where `--pairs` is given, which a picture doesn't take
+-- the option without a value is given
+abbrev pub is_flagged : Text → List Row → Bool
+is_flagged name rows =
+    option_map_or (λ value. bytes_eq value (codes "true")) (first_of name rows) false
+
+-- what a join writes by `--pairs`, `--first`, `--count` and `--unmatched`, of which only the first
+-- two go together
+abbrev pub product_by : Bool → Bool → Bool → Bool → Option Product
+product_by false false false false = Some Report
+product_by true false false false = Some Pairs
+product_by false true false false = Some Firsts
+product_by true true false false = Some FirstPairs
+product_by false false true false = Some Counts
+product_by false false false true = Some Unmatched
+product_by _ _ _ _ = None
+
+abbrev pub product_in : List Row → Option Product
+product_in rows = product_by (is_flagged (codes "pairs") rows) (is_flagged (codes "first") rows)
+    (is_flagged (codes "count") rows) (is_flagged (codes "unmatched") rows)
+
+-- the product is the one that these options ask for, which a picture doesn't take
 abbrev pub IsProductIn : List Row → Product → Type 0
-IsProductIn rows Report = first_of (codes "pairs") rows ≢ Some (codes "true")
-IsProductIn rows Pairs = first_of (codes "pairs") rows ≡ Some (codes "true")
 IsProductIn rows Picture = ⊤
+IsProductIn rows product = product_in rows ≡ Some product
 
 pub record IsJoinIn (rows : List Row) (join : JoinRequest) : Type 0 where
   pub product : IsProductIn rows join.product
@@ -272,8 +332,23 @@ abbrev pub HasRelateFault : List Row → WordFault → Type 0
 HasRelateFault rows f =
     NeedsText (codes "A") rows f (λ _. NeedsText (codes "B") rows f (λ _. HasFormatFault rows f))
 
+abbrev pub IsNoDelimiter : Option Text → Type 0
+IsNoDelimiter None = ⊥
+IsNoDelimiter (Some word) = (word ≢ codes ",") × (word ≢ codes ";") × (word ≢ codes "tab")
+    × (word ≢ codes "\t")
+
+abbrev pub HasDelimiterFault : List Row → WordFault → Type 0
+HasDelimiterFault rows f =
+    IsNoDelimiter (first_of (codes "delimiter") rows) × (f ≡ fault.Delimiter)
+
+-- a fault of the layout of the layers' files, or the consequence if it has none
+abbrev pub NeedsLayout : List Row → WordFault → Type 0 → Type 0
+NeedsLayout rows f Then =
+    HasDelimiterFault rows f ⊎ (((layout : Layout) × IsLayoutIn rows layout) × Then)
+
 abbrev pub HasLayerFault : List Row → WordFault → Type 0
-HasLayerFault rows f = NeedsText (codes "LAYER") rows f (λ _. HasFormatFault rows f)
+HasLayerFault rows f =
+    NeedsText (codes "LAYER") rows f (λ _. NeedsLayout rows f (HasFormatFault rows f))
 
 abbrev pub HasWindowFault : List Row → WordFault → Type 0
 HasWindowFault rows f = NeedsText (codes "WKT") rows f (λ _. HasLayerFault rows f)
@@ -364,17 +439,27 @@ abbrev pub NeedsFree : Text → Text → Option Text → Option Text → WordFau
 NeedsFree left right edits skip f Then =
     MatchBool (is_taken left right edits skip) (Says taken_text f) Then
 
--- a fault of the paths of two layers, of their edits and of the list of skipped rows, or the
--- consequence if they have none
+-- a fault of the paths of two layers, of their edits and of the list of skipped rows, or of the
+-- layout of the layers' files, or the consequence if they have none
 abbrev pub NeedsPaths : List Row → WordFault → Type 0 → Type 0
 NeedsPaths rows f Then =
     NeedsText (codes "LEFT") rows f (λ left. NeedsText (codes "RIGHT") rows f (λ right.
     NeedsOneInput left right (first_of (codes "edits") rows) f
-    (NeedsFree left right (first_of (codes "edits") rows) (first_of (codes "skip") rows) f Then)))
+    (NeedsFree left right (first_of (codes "edits") rows) (first_of (codes "skip") rows) f
+    (NeedsLayout rows f Then))))
 
 abbrev pub HasJoinFault : List Row → WordFault → Type 0
 HasJoinFault rows f =
     NeedsPaths rows f (NeedsRelation rows f (NeedsOptions rows f (HasFormatFault rows f)))
+
+abbrev pub mixed_text : Text
+mixed_text =
+    codes "error: --count and --unmatched can't be given with each other, --pairs or --first\n"
+
+-- options that don't go together, or else a fault of the join
+abbrev pub HasReportFault : List Row → WordFault → Type 0
+HasReportFault rows f =
+    MatchOption (product_in rows) (Says mixed_text f) (λ _. HasJoinFault rows f)
 
 -- the word of the distance spells none at the scale
 abbrev pub HasDistanceFault : List Row → Scale → WordFault → Type 0
@@ -428,9 +513,8 @@ Met = Option (Text × List Row)
 
 -- the name of the command for this product of a join
 abbrev pub name_of : Product → Text
-name_of Report = codes "join"
-name_of Pairs = codes "join"
 name_of Picture = codes "draw"
+name_of _ = codes "join"
 
 -- the matches of the command with this name are this command
 abbrev pub IsCommandIn : Text → List Row → Command → Type 0
@@ -446,7 +530,8 @@ IsCommandIn name rows (Bounds layer) = (name ≡ codes "bounds") × IsLayerIn ro
 -- the fault of the matches of the command with this name
 pub data HasCommandFault (rows : List Row) (f : WordFault) : Text → Type 0 where
   of_relate : HasRelateFault rows f → HasCommandFault rows f (codes "relate")
-  of_join : (product : Product) → HasJoinFault rows f → HasCommandFault rows f (name_of product)
+  of_join : HasReportFault rows f → HasCommandFault rows f (codes "join")
+  of_draw : HasJoinFault rows f → HasCommandFault rows f (codes "draw")
   of_near : HasNearFault rows f → HasCommandFault rows f (codes "near")
   of_nearest : HasNearestFault rows f → HasCommandFault rows f (codes "nearest")
   of_window : HasWindowFault rows f → HasCommandFault rows f (codes "window")

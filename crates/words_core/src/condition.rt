@@ -32,9 +32,12 @@ impl Condition {
     /// # Errors
     /// `AllowsDisjoint` if it holds for two such geometries.
     pub fn new(relation: Relation, geometries: Geometries) -> Result<Condition, AllowsDisjoint>
+        // Ok exactly for relations that hold for no two disjoint geometries of the kind
         ensures ok { IsOk result ↔ ForbidsDisjoint geometries relation }
+        // it is that relation, of that kind
         ensures relation { IfOk result (λ condition. relation_of condition ≡ relation) }
         ensures geometries { IfOk result (λ condition. geometries_of condition ≡ geometries) }
+        // otherwise it holds for some two
         ensures err { OnErr result (HoldsForDisjoint geometries relation) }
     {
         match geometries {

@@ -4,6 +4,7 @@ mod arguments;
 mod distance;
 mod geometries;
 mod join;
+mod layout;
 mod near;
 mod nearest;
 mod options;
@@ -21,6 +22,7 @@ use arguments::{missing, required};
 use clap::ArgMatches;
 use geometries::{read_geometries, read_scale};
 use join::{read_draw, read_join};
+use layout::read_layout;
 use near::read_near;
 use nearest::read_nearest;
 use std::alloc::Global;
@@ -107,10 +109,12 @@ fn read_layer<'a>(alloc: Global, given: &ArgMatches<'a>) -> Result<LayerRequest<
     ensures err { IfErr result (λ f. f ≢ WordFault.Memory → HasLayerFault (found_in given.now) f) }
 {
     let path = required(alloc, given, "LAYER")?;
+    let layout = read_layout(given)?;
     let scale = read_scale(alloc, given)?;
     let geometries = read_geometries(alloc, given)?;
     Ok(LayerRequest {
         path,
+        layout,
         scale,
         geometries,
     })

@@ -9,6 +9,7 @@ use crate::condition::{Condition, Geometries};
 use crate::reading::read_command;
 use clap::error::ErrorKind;
 use distance_core::{Distance, Nearness, Query};
+use format_core::Layout;
 use number_core::Scale;
 use pair_core::{OptionFault, Options, Product};
 use relation_core::{AllowsDisjoint, MaskFault};
@@ -25,7 +26,8 @@ pub struct RelateRequest<'a> {
     pub geometries: Geometries,
 }
 
-/// The paths of the files of two layers, and of their edits, if there are any.
+/// The paths of the files of two layers, and of their edits, if there are any, and how the layers'
+/// files are laid out.
 #[derive(Clone, Copy, PartialEq, Eq)]
 pub struct LayerPaths<'a> {
     pub left: &'a str,
@@ -34,6 +36,8 @@ pub struct LayerPaths<'a> {
     /// The path at which the rows whose geometry can't be read are listed; without one, such a row
     /// is a fault.
     pub skip: Option<&'a str>,
+    /// The layout of the files of both layers.
+    pub layout: Layout<'a>,
 }
 
 /// How the number of workers of the options is meant.
@@ -86,6 +90,7 @@ pub struct NearestRequest<'a> {
 #[derive(Clone, Copy, PartialEq, Eq)]
 pub struct LayerRequest<'a> {
     pub path: &'a str,
+    pub layout: Layout<'a>,
     pub scale: Scale,
     pub geometries: Geometries,
 }
@@ -95,8 +100,7 @@ pub struct LayerRequest<'a> {
 pub enum Command<'a> {
     /// Write the matrix of two geometries.
     Relate(RelateRequest<'a>),
-    /// Write the pairs of features of two layers that stand in a relation, with their matrices or
-    /// alone, or a picture of the two layers in which the features of these pairs are highlighted.
+    /// Write what is asked for of the pairs of features of two layers that stand in a relation.
     Join(JoinRequest<'a>),
     /// Write the pairs of features of two layers that are at most a distance apart, with their
     /// distances.
@@ -148,6 +152,9 @@ pub enum WordFault {
     /// The word of `--rings` is neither `proper` nor `even-odd`.
     #[error("--rings must be proper or even-odd")]
     Rings,
+    /// The word of `--delimiter` names no character that may lie between fields.
+    #[error("--delimiter must be , ; or tab")]
+    Delimiter,
     /// Memory ran out.
     #[error("no memory")]
     Memory,
@@ -187,6 +194,18 @@ impl From<AllocError> for WordFault {
 
 /// Reads the words of the command line, of which the first is the program's name.
 pub fn read_words<'a>(alloc: Global, words: &'a [&'a str]) -> Result<Command<'a>, WordFault>
+    // by the specification of `clap` and the usage of `usage_of`, the command that the words name,
+    // each of its fields from its own argument; a join's product is the one that `--pairs`,
+    // `--first`, `--count` and `--unmatched` ask for; for the number of workers `auto`, which
+    // stands for the greatest number, of which there are at most as many as processors, or else a
+    // number, which `clap` checks; where `clap` refuses the words, a fault of a kind that it may
+    // have, which is help exactly where help or the version is asked for; otherwise the first fault
+    // in the order options of a join that exclude each other, arguments, two files at `-`, a list
+    // of skipped rows at `-` or at the path of another file of the command, `--delimiter`,
+    // relation, whether it holds for disjoint geometries of the kind that the words name, the three
+    // numbers, scale, `--distance`, `--most`, `--geometry`, `--rings`. A distance is the value of
+    // its whole word by the grammar of numbers at the scale; a word that spells none is a fault. No
+    // other comes but out of memory
     ensures { ReadAs (map (λ word. word.now) words.now) result }
 {
     let program = usage_of(alloc, words)?;

@@ -59,7 +59,9 @@ impl BoardSeat {
 
     /// The number of draws that gave a number.
     pub fn count(&self) -> u32
+        // how many numbers it drew
         ensures count { result ≡ self.now.count }
+        // as many as its list has, until the board is closed
         ensures drawn { IsSome self.now.board → result ≡ length self.now.drawn }
     {
         self.count

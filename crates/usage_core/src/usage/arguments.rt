@@ -57,11 +57,14 @@ pub(crate) const RELATE_ARGUMENTS: [Argument; 6] = [
     RINGS,
 ];
 
-pub(crate) const JOIN_ARGUMENTS: [Argument; 13] = [
+pub(crate) const JOIN_ARGUMENTS: [Argument; 18] = [
     LEFT,
     RIGHT,
     RELATION,
     PAIRS,
+    FIRST,
+    COUNT,
+    UNMATCHED,
     EDITS,
     SKIP,
     Argument::Workers,
@@ -71,9 +74,11 @@ pub(crate) const JOIN_ARGUMENTS: [Argument; 13] = [
     ROUND,
     Argument::Geometry,
     RINGS,
+    COLUMNS,
+    DELIMITER,
 ];
 
-pub(crate) const DRAW_ARGUMENTS: [Argument; 12] = [
+pub(crate) const DRAW_ARGUMENTS: [Argument; 14] = [
     LEFT,
     RIGHT,
     RELATION,
@@ -86,9 +91,11 @@ pub(crate) const DRAW_ARGUMENTS: [Argument; 12] = [
     ROUND,
     Argument::Geometry,
     RINGS,
+    COLUMNS,
+    DELIMITER,
 ];
 
-pub(crate) const NEAR_ARGUMENTS: [Argument; 13] = [
+pub(crate) const NEAR_ARGUMENTS: [Argument; 15] = [
     LEFT,
     RIGHT,
     DISTANCE,
@@ -102,9 +109,11 @@ pub(crate) const NEAR_ARGUMENTS: [Argument; 13] = [
     ROUND,
     Argument::Geometry,
     RINGS,
+    COLUMNS,
+    DELIMITER,
 ];
 
-pub(crate) const NEAREST_ARGUMENTS: [Argument; 13] = [
+pub(crate) const NEAREST_ARGUMENTS: [Argument; 15] = [
     LEFT,
     RIGHT,
     MOST,
@@ -118,9 +127,11 @@ pub(crate) const NEAREST_ARGUMENTS: [Argument; 13] = [
     ROUND,
     Argument::Geometry,
     RINGS,
+    COLUMNS,
+    DELIMITER,
 ];
 
-pub(crate) const WINDOW_ARGUMENTS: [Argument; 6] = [
+pub(crate) const WINDOW_ARGUMENTS: [Argument; 8] = [
     LAYER,
     Argument::Positional {
         name: "WKT",
@@ -130,10 +141,20 @@ pub(crate) const WINDOW_ARGUMENTS: [Argument; 6] = [
     ROUND,
     Argument::Geometry,
     RINGS,
+    COLUMNS,
+    DELIMITER,
 ];
 
 /// The arguments of `stats` and of `bounds`.
-pub(crate) const LAYER_ARGUMENTS: [Argument; 5] = [LAYER, SCALE, ROUND, Argument::Geometry, RINGS];
+pub(crate) const LAYER_ARGUMENTS: [Argument; 7] = [
+    LAYER,
+    SCALE,
+    ROUND,
+    Argument::Geometry,
+    RINGS,
+    COLUMNS,
+    DELIMITER,
+];
 
 const LAYER: Argument = Argument::Positional {
     name: "LAYER",
@@ -170,6 +191,21 @@ const RELATION: Argument = Argument::Required {
 const PAIRS: Argument = Argument::Flag {
     name: "pairs",
     help: "Write the two ids of each pair, without the matrix",
+};
+
+const FIRST: Argument = Argument::Flag {
+    name: "first",
+    help: "Write the first pair of each left feature alone",
+};
+
+const COUNT: Argument = Argument::Flag {
+    name: "count",
+    help: "Write the number of pairs of each left feature in place of the pairs",
+};
+
+const UNMATCHED: Argument = Argument::Flag {
+    name: "unmatched",
+    help: "Write the left features without a pair in place of the pairs",
 };
 
 const DISTANCE: Argument = Argument::Required {
@@ -218,6 +254,16 @@ const SCALE: Argument = Argument::Number {
 const RINGS: Argument = Argument::Optional {
     name: "rings",
     help: "Rings that --geometry any accepts, proper (the default) or even-odd",
+};
+
+const COLUMNS: Argument = Argument::Optional {
+    name: "columns",
+    help: "Names of a layer's columns, ID,GEOMETRY or GEOMETRY",
+};
+
+const DELIMITER: Argument = Argument::Optional {
+    name: "delimiter",
+    help: "Character between a layer's fields, \",\" (the default), \";\" or tab",
 };
 
 /// The `clap` definition of an argument, where `--workers` takes such a value.

@@ -1,4 +1,4 @@
-//! The values of single arguments.
+//! The values of single arguments, and the faults of words.
 
 ghost use Rattle.std.specs.Prelude.{◌≡◌, ◌≢◌, Some, None, IfOk, IfErr};
 ghost use Rattle.clap.specs.Words.{first_of};
@@ -45,6 +45,16 @@ pub fn missing(alloc: Global, name: &str) -> WordFault
     ensures { result ≢ WordFault.Memory → Says (missing_text name.now) result }
 {
     match format!(in alloc; "error: {name} is missing\n") {
+        Ok(text) => WordFault::Usage { text, help: false },
+        Err(AllocError) => WordFault::Memory,
+    }
+}
+
+/// The fault of words that this text refuses.
+pub fn usage_fault(alloc: Global, text: &str) -> WordFault
+    ensures { result ≢ WordFault.Memory → Says text.now result }
+{
+    match String::from_str(alloc, text) {
         Ok(text) => WordFault::Usage { text, help: false },
         Err(AllocError) => WordFault::Memory,
     }

@@ -1,11 +1,12 @@
-//! Reading a join, of which a report, with or without matrices, or a picture is asked for.
+//! Reading a join, and which output is asked for.
 
 ghost use Rattle.std.specs.Prelude.{◌≡◌, ◌≢◌, codes, IfOk, IfErr, IfSome, IfNone, OnOk, OnErr};
 ghost use Rattle.words_core.specs.Readings.{AllowsDisjointIn, ForbidsDisjointIn, HasJoinFault};
-ghost use Rattle.words_core.specs.Readings.{IsCommandIn, IsConditionIn, IsJoinIn, IsProductIn};
-ghost use Rattle.words_core.specs.Readings.{NamesNoKind, found_in, name_of};
+ghost use Rattle.words_core.specs.Readings.{HasReportFault, IsCommandIn, IsConditionIn, IsJoinIn};
+ghost use Rattle.words_core.specs.Readings.{IsProductIn, NamesNoKind, found_in, is_flagged};
+ghost use Rattle.words_core.specs.Readings.{name_of, product_in};
 
-use super::arguments::{optional, required};
+use super::arguments::{optional, required, usage_fault};
 use super::geometries::{geometry_fault, named_geometries, read_scale};
 use super::options::read_options;
 use super::paths::read_paths;
@@ -17,12 +18,18 @@ use pair_core::Product;
 use relation_core::{AllowsDisjoint, Relation};
 use std::alloc::Global;
 
-/// Reads a join of which a report is asked for.
+/// Reads a join of which CSV is asked for.
 pub fn read_join<'a>(alloc: Global, given: &ArgMatches<'a>) -> Result<Command<'a>, WordFault>
     ensures ok { IfOk result (IsCommandIn (codes "join") (found_in given.now)) }
-    ensures err { IfErr result (λ f. f ≢ WordFault.Memory → HasJoinFault (found_in given.now) f) }
+    ensures err { IfErr result (λ f. f ≢ WordFault.Memory
+        → HasReportFault (found_in given.now) f) }
 {
-    let product = read_report(given);
+    let Some(product) = asked_product(given) else {
+        return Err(usage_fault(
+            alloc,
+            "error: --count and --unmatched can't be given with each other, --pairs or --first\n",
+        ));
+    };
     let join = read_request(alloc, given, product)?;
     Ok(Command::Join(join))
 }
@@ -36,14 +43,35 @@ pub fn read_draw<'a>(alloc: Global, given: &ArgMatches<'a>) -> Result<Command<'a
     Ok(Command::Join(join))
 }
 
-/// The report that is asked for: that of pairs alone where `--pairs` is given.
-fn read_report(given: &ArgMatches<'_>) -> Product
-    ensures asked { IsProductIn (found_in given.now) result }
-    ensures name { codes "join" ≡ name_of result }
+/// What is asked for in place of a picture, or `None` where options are given that exclude each
+/// other.
+fn asked_product(given: &ArgMatches<'_>) -> Option<Product>
+    ensures asked { result ≡ product_in (found_in given.now) }
+    ensures names { IfSome result (λ product. (codes "join" ≡ name_of product)
+        × IsProductIn (found_in given.now) product) }
 {
-    match optional(given, "pairs") {
-        Some("true") => Product::Pairs,
-        _ => Product::Report,
+    let pairs = is_flagged(given, "pairs");
+    let first = is_flagged(given, "first");
+    let count = is_flagged(given, "count");
+    let unmatched = is_flagged(given, "unmatched");
+    match (pairs, first, count, unmatched) {
+        (false, false, false, false) => Some(Product::Report),
+        (true, false, false, false) => Some(Product::Pairs),
+        (false, true, false, false) => Some(Product::Firsts),
+        (true, true, false, false) => Some(Product::FirstPairs),
+        (false, false, true, false) => Some(Product::Counts),
+        (false, false, false, true) => Some(Product::Unmatched),
+        _ => None,
+    }
+}
+
+/// Whether an option without a value is given.
+fn is_flagged(given: &ArgMatches<'_>, name: &str) -> bool
+    ensures { result ≡ is_flagged name.now (found_in given.now) }
+{
+    match optional(given, name) {
+        Some(value) => value == "true",
+        None => false,
     }
 }
 

@@ -1,17 +1,18 @@
-//! Reading the paths of two layers and of their edits.
+//! Reading the paths of two layers and of their edits, and the layout of the layers' files.
 
 ghost use Rattle.std.specs.Prelude.{◌≡◌, ◌≢◌, IfOk, IfErr};
-ghost use Rattle.words_core.specs.Readings.{ArePathsIn, NeedsPaths, Says, found_in, is_taken};
+ghost use Rattle.words_core.specs.Readings.{ArePathsIn, NeedsPaths, found_in, is_taken};
 ghost use Rattle.words_core.specs.Readings.{share_input, text_in};
 
-use super::arguments::{optional, required};
+use super::arguments::{optional, required, usage_fault};
+use super::layout::read_layout;
 use crate::standard_input::is_standard_input;
 use crate::words::{LayerPaths, WordFault};
 use clap::ArgMatches;
-use std::alloc::{AllocError, Global};
+use std::alloc::Global;
 
-/// Reads the paths. At most one of the files may be standard input, and the list of skipped rows
-/// has to be another file.
+/// Reads the paths, and how the layers' files are laid out. At most one of the files may be standard
+/// input, and the list of skipped rows has to be another file.
 pub fn read_paths<'a>(alloc: Global, given: &ArgMatches<'a>) -> Result<LayerPaths<'a>, WordFault>
     ensures ok { IfOk result (ArePathsIn (found_in given.now)) }
     ensures err { IfErr result (λ f. f ≢ WordFault.Memory → NeedsPaths (found_in given.now) f ⊥) }
@@ -29,22 +30,14 @@ pub fn read_paths<'a>(alloc: Global, given: &ArgMatches<'a>) -> Result<LayerPath
     if is_taken(left, right, edits, skip) {
         return Err(usage_fault(alloc, "error: --skip needs a file of its own\n"));
     }
+    let layout = read_layout(given)?;
     Ok(LayerPaths {
         left,
         right,
         edits,
         skip,
+        layout,
     })
-}
-
-/// The fault of words that this text refuses.
-fn usage_fault(alloc: Global, text: &str) -> WordFault
-    ensures { result ≢ WordFault.Memory → Says text.now result }
-{
-    match String::from_str(alloc, text) {
-        Ok(text) => WordFault::Usage { text, help: false },
-        Err(AllocError) => WordFault::Memory,
-    }
 }
 
 /// Whether the list of skipped rows would be written to standard output or over a file of the join.

@@ -3,7 +3,7 @@ use Rattle.std.proofs.Common.{◌∙◌, subst, sym}
 use Rattle.std.proofs.Crossing.{crosses}
 use Rattle.layer_core.specs.Layers.{Contents}
 use Rattle.prepared_core.proofs.SyncLemmas.{layer_sync}
-use Rattle.any_near_core.proofs.SyncLemmas.{measured_sync}
+use Rattle.geometry_distance_core.proofs.SyncLemmas.{index_sync}
 use Rattle.any_geometry_core.specs.declared.geometry.AnyGeometry.{AnyGeometry}
 use Rattle.nearest_core.proofs.MatchLemmas.{from_both, if_ok}
 use Rattle.any_nearest_core.specs.Matches.{AreMatches, AreMatchesOf}
@@ -20,7 +20,7 @@ returns-then-workers-le1 g c =
     c.matches_of.ensures
 
 pub matches_by_chunks-requires-sync-L : goal.matches_by_chunks-requires-sync-L
-matches_by_chunks-requires-sync-L g c = search (sendable, crosses, layer_sync, measured_sync, geometry_sync) depth 60 fits 20000
+matches_by_chunks-requires-sync-L g c = search (sendable, crosses, layer_sync, index_sync, geometry_sync) depth 60 fits 20000
 
 pub returns : goal.returns
 returns g c =

@@ -18,13 +18,13 @@ bound_of-requires g c =
 
 pub measured_within-requires : goal.measured_within-requires
 measured_within-requires g c =
-    subst (AreNeighboursWithin (g.L.MeasuredLayer.contents c.args.layer.now) c.in_ok-from.from (units_of c.in_ok-distance.field-0.distance)) (sym c.deref-3.ensures.value)
+    subst (AreNeighboursWithin (g.L.MeasuredLayer.contents c.args.layer.now) c.new-from.result (units_of c.in_ok-distance.field-0.distance)) (sym c.deref-3.ensures.value)
     c.in_ok-distance.ensures.measured
 
 pub returns : goal.returns
 returns g c =
     found_as c.args.query.now (g.L.MeasuredLayer.contents c.args.layer.now) c.args.geometry.now _ c.bounds-shape.result (units_of c.in_ok-distance.field-0.distance) c.in_ok-candidates.candidates.items
-    _ _ _ _ _ c.most.ensures.most (c.in_ok-from.ensures ∙ c.geometry.ensures) c.bounds-shape.ensures
+    _ _ _ _ _ c.most.ensures.most (c.new-from.ensures ∙ c.geometry-2.ensures) c.bounds-shape.ensures
     (subst (λ (layer : Contents AnyGeometry). AreBoxesWithin layer c.bounds-shape.result (units_of c.in_ok-distance.field-0.distance) c.in_ok-candidates.candidates.items)
     c.features-features.ensures c.in_ok-candidates.ensures)
     c.deref-2.ensures.value c.in_ok-found.ensures c.sort_neighbours.ensures.permutation c.in_ok-distance.ensures.bound

@@ -1,10 +1,10 @@
-use Rattle.arrangement_core.proofs.SettledLemmas.{fit_by_matrix, matrix_by_fit, settled_right}
+use Rattle.arrangement_core.proofs.SettledLemmas.{fit_by_answer, answer_by_fit, settled_right}
 use Rattle.arrangement_core.proofs.fits.fits_prepared.Goals as goal
 
 pub returns-in-Ok : goal.returns-in-Ok
 returns-in-Ok c = (
-  λ yes. fit_by_matrix _ _ _ _ c.in-Ok.ensures.matrix (c.one_fits.ensures.0 yes),
-  λ fit. c.one_fits.ensures.1 (matrix_by_fit _ _ _ _ c.in-Ok.ensures.matrix fit),
+  λ yes. fit_by_answer c.args.question.now _ _ _ c.in-Ok.ensures.matrix (c.one_fits.ensures.0 yes),
+  λ fit. c.one_fits.ensures.1 (answer_by_fit c.args.question.now _ _ _ c.in-Ok.ensures.matrix fit),
 )
 
 pub returns-in-Err-Settled : goal.returns-in-Err-Settled

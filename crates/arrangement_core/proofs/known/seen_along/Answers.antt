@@ -11,7 +11,7 @@ returns-then-is_clear c =
     record {
       end = refl;
       lies = subst (LiesIn o e) (sym c.part_from-part.ensures)
-          (lies_clear o c.args.pair.now.second_box e c.args.near.now c.requires.bounded (rw c.outline-outline.ensures at c.is_clear.ensures.edges holds) (c.is_clear.ensures.none holds) c.requires.found);
+          (lies_clear o c.args.pair.now.second_box e c.args.near.now c.requires.bounded c.requires.long (rw c.outline-outline.ensures at c.is_clear.ensures.edges holds) (c.is_clear.ensures.none holds) c.requires.found);
     }
 
 pub returns-then-is_off_points : goal.returns-then-is_off_points

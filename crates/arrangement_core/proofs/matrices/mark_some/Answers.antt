@@ -1,9 +1,11 @@
-use Rattle.std.proofs.Common.{sym, subst, refl}
+use Rattle.std.proofs.Common.{take, drop, sym, subst, refl}
+use Rattle.std.proofs.lemmas.List.{take-append-drop}
 use Rattle.std.proofs.lemmas.Result.{err_from_is_err_and}
 use Rattle.noding_core.specs.ReadOffs.{outline_edges, IsOwn}
 use Rattle.noding_core.proofs.ReadOffLemmas.{marked_none, marked_more, marked_whole}
+use Rattle.noding_core.proofs.TurnLemmas.{all_front}
 use Rattle.shown_core.proofs.ShownLemmas.{edges_of_first}
-use Rattle.arrangement_core.proofs.SettledLemmas.{part_next}
+use Rattle.arrangement_core.proofs.SettledLemmas.{begun_own, part_next}
 use Rattle.arrangement_core.proofs.SharedLemmas.{shared_still}
 use Rattle.arrangement_core.proofs.matrices.mark_some.Goals as goal
 
@@ -40,5 +42,13 @@ pub returns-in_err-go_on-clause-stop : goal.returns-in_err-go_on-clause-stop
 returns-in_err-go_on-clause-stop c =
     let p = err_from_is_err_and c.from_residual-in_err-go_on.result c.from_residual-in_err-go_on.ensures.1 in
     rw (p.1, p.2) (c.in_err-go_on.ensures _ _
-    (part_next c.args.pair.now.has_second c.args.pair.now.first.now c.args.pair.now.second.now _ _ _ _ _ _ _ _ _ c.loop-e-test.true c.e-item.is c.requires.own
+    (part_next c.args.wanted.now c.args.pair.now.has_second c.args.pair.now.first.now c.args.pair.now.second.now _ _ _ _ _ _ _ _ _ c.loop-e-test.true c.e-item.is c.requires.own
     c.requires.first c.requires.bounded c.requires.long c.requires.begun c.loop-e.invariant.marked c.in_ok-next.ensures.marked))
+
+pub mark_edge-requires-clause-begun : goal.mark_edge-requires-clause-begun
+mark_edge-requires-clause-begun c =
+    let ds = c.args.edges.now in
+    let i = c.loop-e.e-index in
+    begun_own c.args.wanted.now c.args.pair.now.has_second c.args.pair.now.first.now c.args.pair.now.second.now _ (take i ds) _ _
+    (all_front (IsOwn c.args.pair.now.first.now) ds (take i ds) (drop i ds) (sym (take-append-drop i ds)) c.requires.own)
+    c.requires.begun c.loop-e.invariant.marked

@@ -1,6 +1,6 @@
 use Rattle.std.proofs.lemmas.Result.{err_from_is_err_and}
-use Rattle.noding_core.proofs.LawLemmas.{outlines_long, matrix_of}
-use Rattle.arrangement_core.proofs.SettledLemmas.{end_of}
+use Rattle.noding_core.proofs.LawLemmas.{outlines_long}
+use Rattle.arrangement_core.proofs.SettledLemmas.{end_of, matrix_read}
 use Rattle.arrangement_core.proofs.prepared.computed.Goals as goal
 
 pub read_off-requires-clause-long : goal.read_off-requires-clause-long
@@ -14,7 +14,7 @@ returns-clause-matrix c =
     let f = c.a.invariant in
     let s = c.b.invariant in
     rw (← c.a.view_is, ← c.b.view_is)
-    ((matrix_of _ _ _ c.in_ok-matrix.ensures.read).is c.a.inside.geometry.now c.b.inside.geometry.now f.outline s.outline f.geometry s.geometry)
+    (matrix_read c.args.wanted.now _ _ c.a.inside.geometry.now c.b.inside.geometry.now _ f.outline s.outline f.geometry s.geometry c.in_ok-matrix.ensures.read)
 
 pub returns-in_err-matrix-clause-end : goal.returns-in_err-matrix-clause-end
 returns-in_err-matrix-clause-end c =

@@ -16,7 +16,7 @@ pub returns-clause-marked : goal.returns-clause-marked
 returns-clause-marked c =
     let t = c.turned-turned.ensures in
     rounds c.args.pair.now.first.now c.args.pair.now.second.now (is_beyond c.args.pair.now.second_box) (is_beyond c.args.pair.now.first_box) _ _ _ _ _ _
-    (rw c.outside-start.ensures at c.in_ok-around_first.ensures.marked)
+    (rw c.start-start.ensures at c.in_ok-around_first.ensures.marked)
     (rw (t.first, t.second, t.second_box, c.transposed-across.ensures) at c.in_ok-around_both.ensures.marked)
     (rw (t.first, t.second, t.second_box) at c.in_ok-second.ensures)
     (rw c.transposed-back.ensures at c.in_ok-all.ensures)
@@ -24,17 +24,16 @@ returns-clause-marked c =
 pub mark_around-requires-2-clause-shared : goal.mark_around-requires-2-clause-shared
 mark_around-requires-2-clause-shared c =
     let t = c.turned-turned.ensures in
-    rw (t.first, t.second, c.transposed-across.ensures) (λ is. shared_first c.args.pair.now.first.now c.args.pair.now.second.now _ c.args.pair.now.second_box _ c.requires.second
-    (rw c.outside-start.ensures at c.in_ok-around_first.ensures.marked))
+    rw (t.first, t.second, c.transposed-across.ensures) (λ is. shared_first c.args.pair.now.first.now c.args.pair.now.second.now _ c.args.pair.now.second_box _ _ c.requires.second c.in_ok-around_first.ensures.marked)
 
 pub mark_around-requires-clause-begun : goal.mark_around-requires-clause-begun
 mark_around-requires-clause-begun c =
-    rw (c.outside-start.ensures, c.requires.none) (begun_none c.args.pair.now.first.now c.args.pair.now.second.now _ c.requires.points)
+    rw (c.start-start.ensures, c.requires.none) (begun_none c.args.wanted.now c.args.pair.now.first.now c.args.pair.now.second.now _ c.requires.points)
 
 pub mark_around-requires-2-clause-begun : goal.mark_around-requires-2-clause-begun
 mark_around-requires-2-clause-begun c =
     let a = c.args.pair.now.first.now in
     let b = c.args.pair.now.second.now in
     let t = c.turned-turned.ensures in
-    rw (t.first, t.second, t.marked, c.transposed-across.ensures) (begun_turned a b _ _
-    (begun_some false a b _ _ _ _ _ (begun_none a b _ c.requires.points) (rw c.outside-start.ensures at c.in_ok-around_first.ensures.marked)))
+    rw (t.first, t.second, t.marked, c.transposed-across.ensures) (begun_turned c.args.wanted.now a b _ _
+    (begun_some c.args.wanted.now false a b _ _ _ _ _ (begun_none c.args.wanted.now a b _ c.requires.points) (rw c.start-start.ensures at c.in_ok-around_first.ensures.marked)))

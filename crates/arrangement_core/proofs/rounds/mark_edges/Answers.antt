@@ -20,5 +20,5 @@ mark_some-requires-2-clause-shared c =
 
 pub mark_some-requires-2-clause-begun : goal.mark_some-requires-2-clause-begun
 mark_some-requires-2-clause-begun c =
-    begun_own c.args.pair.now.has_second c.args.pair.now.first.now c.args.pair.now.second.now _ _ _ _
+    begun_own c.args.wanted.now c.args.pair.now.has_second c.args.pair.now.first.now c.args.pair.now.second.now _ _ _ _
     (all_back (IsOwn c.args.pair.now.first.now) _ _ _ c.split_at.ensures.by_index.0 c.requires.own) c.requires.begun c.in_ok-begun.ensures.marked

@@ -15,42 +15,42 @@ returns-in-Relate-clause-skips g c =
     )
 
 pub returns-in-Join-clause-ends : goal.returns-in-Join-clause-ends
-returns-in-Join-clause-ends g c = rw c.in-Join.is c.execute_join.ensures.ends
+returns-in-Join-clause-ends g c = rw c.in-Join.is c.execute_pairs.ensures.ends
 
 pub returns-in-Join-clause-skips : goal.returns-in-Join-clause-skips
 returns-in-Join-clause-skips g c =
-    let skips = c.execute_join.ensures.skips in
+    let skips = c.execute_pairs.ensures.skips in
     rw c.in-Join.is (
       skips.0,
       skips.1,
-      noted c.execute_join.result _ _ skips.0 _ (on_ok c.execute_join.result _ c.requires.none.improper) skips.2
-          (with_none c.execute_join.result _ _ c.execute_join.ensures.rows c.requires.none.layer),
+      noted c.execute_pairs.result _ _ skips.0 _ (on_ok c.execute_pairs.result _ c.requires.none.improper) skips.2
+          (with_none c.execute_pairs.result _ _ c.execute_pairs.ensures.rows c.requires.none.layer),
     )
 
 pub returns-in-Near-clause-ends : goal.returns-in-Near-clause-ends
-returns-in-Near-clause-ends g c = rw c.in-Near.is c.execute_near.ensures.ends
+returns-in-Near-clause-ends g c = rw c.in-Near.is c.execute_pairs-in-Near.ensures.ends
 
 pub returns-in-Near-clause-skips : goal.returns-in-Near-clause-skips
 returns-in-Near-clause-skips g c =
-    let skips = c.execute_near.ensures.skips in
+    let skips = c.execute_pairs-in-Near.ensures.skips in
     rw c.in-Near.is (
       skips.0,
       skips.1,
-      noted c.execute_near.result _ _ skips.0 _ (on_ok c.execute_near.result _ c.requires.none.improper) skips.2
-          (with_none c.execute_near.result _ _ c.execute_near.ensures.rows c.requires.none.layer),
+      noted c.execute_pairs-in-Near.result _ _ skips.0 _ (on_ok c.execute_pairs-in-Near.result _ c.requires.none.improper) skips.2
+          (with_none c.execute_pairs-in-Near.result _ _ c.execute_pairs-in-Near.ensures.rows c.requires.none.layer),
     )
 
 pub returns-in-Nearest-clause-ends : goal.returns-in-Nearest-clause-ends
-returns-in-Nearest-clause-ends g c = rw c.in-Nearest.is c.execute_nearest.ensures.ends
+returns-in-Nearest-clause-ends g c = rw c.in-Nearest.is c.execute_pairs-in-Nearest.ensures.ends
 
 pub returns-in-Nearest-clause-skips : goal.returns-in-Nearest-clause-skips
 returns-in-Nearest-clause-skips g c =
-    let skips = c.execute_nearest.ensures.skips in
+    let skips = c.execute_pairs-in-Nearest.ensures.skips in
     rw c.in-Nearest.is (
       skips.0,
       skips.1,
-      noted c.execute_nearest.result _ _ skips.0 _ (on_ok c.execute_nearest.result _ c.requires.none.improper) skips.2
-          (with_none c.execute_nearest.result _ _ c.execute_nearest.ensures.rows c.requires.none.layer),
+      noted c.execute_pairs-in-Nearest.result _ _ skips.0 _ (on_ok c.execute_pairs-in-Nearest.result _ c.requires.none.improper) skips.2
+          (with_none c.execute_pairs-in-Nearest.result _ _ c.execute_pairs-in-Nearest.ensures.rows c.requires.none.layer),
     )
 
 pub returns-in-Window-clause-ends : goal.returns-in-Window-clause-ends

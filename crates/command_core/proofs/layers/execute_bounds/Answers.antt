@@ -1,3 +1,6 @@
+use Rattle.format_core.specs.Formats.{ReadsAny}
+use Rattle.format_core.specs.Layouts.{laid_out}
+use Rattle.run_core.specs.ImproperRings.{AreRingsImproper}
 use Rattle.words_core.specs.declared.condition.Geometries.TheVariants.{Box, Any}
 use Rattle.command_core.specs.LayerResults.{GivesCorners}
 use Rattle.command_core.proofs.LayerCommandLemmas.{bounds_runs, layer_unready, layer_ran, of_kind}
@@ -12,15 +15,18 @@ returns-in_err-layer-clause-ends g c =
 pub returns-in-Box-clause-ends : goal.returns-in-Box-clause-ends
 returns-in-Box-clause-ends g c =
     layer_ran _ _ _ _ (bounds_runs c.args.request.now) _ _ _ _ c.in_ok-layer.ensures.ok
-    (of_kind GivesCorners Box _ _ _ _ _ _ c.in-Box.is c.run_bounds.ensures)
+    (of_kind GivesCorners Box _ _ _ _ _ _ _ c.in-Box.is c.run_bounds.ensures)
 
 pub returns-clause-ends : goal.returns-clause-ends
 returns-clause-ends g c =
     layer_ran _ _ _ _ (bounds_runs c.args.request.now) _ _ _ _ c.in_ok-layer.ensures.ok
-    (of_kind GivesCorners (Any c.in-Any.rings) _ _ _ _ _ _ c.in-Any.is c.run_bounds_marking.ensures.runs)
+    (of_kind GivesCorners (Any c.in-Any.rings) _ _ _ _ _ _ _ c.in-Any.is c.run_bounds_marking.ensures.runs)
 
 pub returns-in-Box-clause-rows : goal.returns-in-Box-clause-rows
 returns-in-Box-clause-rows g c = rw c.in-Box.is (on_ok c.run_bounds.result _ c.requires.none)
 
 pub returns-clause-rows : goal.returns-clause-rows
-returns-clause-rows g c = rw c.in-Any.is (layer_marks c.run_bounds_marking.result _ _ _ c.in_ok-layer.ensures.ok _ _ _ c.run_bounds_marking.ensures.marked)
+returns-clause-rows g c =
+    let request = c.args.request.now in
+    let reads = laid_out request.layout (ReadsAny request.scale c.in-Any.rings) in
+    rw c.in-Any.is (layer_marks c.run_bounds_marking.result _ _ _ c.in_ok-layer.ensures.ok reads (AreRingsImproper c.in-Any.rings) _ c.run_bounds_marking.ensures.marked)

@@ -1,3 +1,6 @@
+use Rattle.format_core.specs.Formats.{ReadsAny}
+use Rattle.format_core.specs.Layouts.{laid_out}
+use Rattle.run_core.specs.ImproperRings.{AreRingsImproper}
 use Rattle.words_core.specs.declared.condition.Geometries.TheVariants.{Box, Any}
 use Rattle.command_core.specs.LayerResults.{GivesCounts}
 use Rattle.command_core.proofs.LayerCommandLemmas.{stats_runs, layer_unready, layer_ran, of_kind}
@@ -12,15 +15,18 @@ returns-in_err-layer-clause-ends g c =
 pub returns-in-Box-clause-ends : goal.returns-in-Box-clause-ends
 returns-in-Box-clause-ends g c =
     layer_ran _ _ _ _ (stats_runs c.args.request.now) _ _ _ _ c.in_ok-layer.ensures.ok
-    (of_kind GivesCounts Box _ _ _ _ _ _ c.in-Box.is c.run_stats.ensures)
+    (of_kind GivesCounts Box _ _ _ _ _ _ _ c.in-Box.is c.run_stats.ensures)
 
 pub returns-clause-ends : goal.returns-clause-ends
 returns-clause-ends g c =
     layer_ran _ _ _ _ (stats_runs c.args.request.now) _ _ _ _ c.in_ok-layer.ensures.ok
-    (of_kind GivesCounts (Any c.in-Any.rings) _ _ _ _ _ _ c.in-Any.is c.run_any_stats.ensures.runs)
+    (of_kind GivesCounts (Any c.in-Any.rings) _ _ _ _ _ _ _ c.in-Any.is c.run_any_stats.ensures.runs)
 
 pub returns-in-Box-clause-rows : goal.returns-in-Box-clause-rows
 returns-in-Box-clause-rows g c = rw c.in-Box.is (on_ok c.run_stats.result _ c.requires.none)
 
 pub returns-clause-rows : goal.returns-clause-rows
-returns-clause-rows g c = rw c.in-Any.is (layer_marks c.run_any_stats.result _ _ _ c.in_ok-layer.ensures.ok _ _ _ c.run_any_stats.ensures.improper)
+returns-clause-rows g c =
+    let request = c.args.request.now in
+    let reads = laid_out request.layout (ReadsAny request.scale c.in-Any.rings) in
+    rw c.in-Any.is (layer_marks c.run_any_stats.result _ _ _ c.in_ok-layer.ensures.ok reads (AreRingsImproper c.in-Any.rings) _ c.run_any_stats.ensures.improper)

@@ -1,5 +1,5 @@
 use Rattle.command_core.specs.Opening.{no_left, no_right, no_edits}
-use Rattle.command_core.proofs.JoinCommandLemmas.{missing_as}
+use Rattle.command_core.proofs.PairCommandLemmas.{missing_as}
 use Rattle.command_core.proofs.opening.open_sources.Goals as goal
 
 pub returns-in_err-left-clause-missing : goal.returns-in_err-left-clause-missing

@@ -4,7 +4,7 @@ use Rattle.std.proofs.lemmas.Result.{err_from_is_err_and}
 use Rattle.row_core.specs.declared.unread.Unread.TheVariants.{Rows}
 use Rattle.row_core.specs.LayerRows.{HasId}
 use Rattle.row_core.specs.Cuts.{IsClosed}
-use Rattle.row_core.specs.LayerRows.{content_of}
+use Rattle.row_core.specs.LayerRows.{content_of, form_of}
 use Rattle.row_core.specs.Rows.{rows_left, rows_read}
 use Rattle.file_core.proofs.BatchLemmas.{say-push, says-any, batch-refused, batch-ended, batch-faulty}
 use Rattle.file_core.proofs.batch.fill.Goals as goal
@@ -13,7 +13,7 @@ pub returns-in_err-reserve-clause-batch : goal.returns-in_err-reserve-clause-bat
 returns-in_err-reserve-clause-batch g c =
     let none = c.reserve.ensures.items ∙ c.requires.empty in
     let p = err_from_is_err_and c.from_residual.result c.from_residual.ensures.1 in
-    rw (none, p.1, p.2) (batch-refused (g.F.Format.reads c.args.reader.format) (Rows c.args.rows.now) (Rows c.args.rows.now) [] (rows_left c.args.rows.now) refl (All-nil HasId))
+    rw (none, p.1, p.2) (batch-refused (form_of g.F.Format.reads c.args.reader) (Rows c.args.rows.now) (Rows c.args.rows.now) [] (rows_left c.args.rows.now) refl (All-nil HasId))
 
 pub loop-init : goal.loop-init
 loop-init g c =
@@ -33,12 +33,12 @@ pub returns-in_err-next-clause-batch : goal.returns-in_err-next-clause-batch
 returns-in_err-next-clause-batch g c =
     let p = err_from_is_err_and c.from_residual-in_err-next.result c.from_residual-in_err-next.ensures.1 in
     rw (p.1, p.2)
-    (batch-refused (g.F.Format.reads c.args.reader.format) (Rows c.args.rows.now) _ c.loop.read.items (rows_left c.loop.rows) c.loop.invariant.rows
+    (batch-refused (form_of g.F.Format.reads c.args.reader) (Rows c.args.rows.now) _ c.loop.read.items (rows_left c.loop.rows) c.loop.invariant.rows
     c.loop.invariant.ids)
 
 pub returns-in_default-clause-batch : goal.returns-in_default-clause-batch
 returns-in_default-clause-batch g c =
-    batch-ended (g.F.Format.reads c.args.reader.format) (Rows c.args.rows.now) _ c.loop.read.items (rows_left c.loop.rows) c.loop.invariant.rows
+    batch-ended (form_of g.F.Format.reads c.args.reader) (Rows c.args.rows.now) _ c.loop.read.items (rows_left c.loop.rows) c.loop.invariant.rows
     c.loop.invariant.ids (rw c.in_default.is at c.in_ok-next.ensures).none_left
 
 pub returns-in_default-clause-closed : goal.returns-in_default-clause-closed
@@ -54,7 +54,7 @@ returns-in_err-row-clause-batch g c =
     let at : c.in-Some.number ≡ rows_read c.args.rows.now + 1 + length c.loop.read.items =
     omega (arith, reads.numbered, c.loop.invariant.counted, c.loop.read.ok.0) in
     rw (p.1, p.2)
-    (batch-faulty (g.F.Format.reads c.args.reader.format) (Rows c.args.rows.now) _ c.loop.read.items (rows_left c.loop.rows) c.loop.invariant.rows
+    (batch-faulty (form_of g.F.Format.reads c.args.reader) (Rows c.args.rows.now) _ c.loop.read.items (rows_left c.loop.rows) c.loop.invariant.rows
     c.loop.invariant.ids fault (λ e. c.in_err-row.ensures.no_io (ap Err e))
     (λ known. rw (reads.row, ← at, ← c.row-record.ensures) (c.in_err-row.ensures.fault known)))
 
@@ -66,9 +66,9 @@ loop-preserved g c =
     record {
       reading = reads.reading;
       rows = rw c.push_reserved.ensures.items
-          (say-push (g.F.Format.reads c.args.reader.format) (rows_left c.args.rows.now) c.loop.read.items _ row
+          (say-push (form_of g.F.Format.reads c.args.reader) (rows_left c.args.rows.now) c.loop.read.items _ row
           _ say
-          (says-any (g.F.Format.reads c.args.reader.format) c.in-Some.number _ (content_of row) (rw (← c.row-record.ensures) c.in_ok-row.ensures.says)));
+          (says-any (form_of g.F.Format.reads c.args.reader) c.in-Some.number _ (content_of row) (rw (← c.row-record.ensures) c.in_ok-row.ensures.says)));
       counted = omega (arith, reads.numbered, reads.counted, c.loop.invariant.counted, c.push_reserved.ensures.len);
       ids = rw c.push_reserved.ensures.items (All-push HasId c.loop.read.items row c.loop.invariant.ids c.in_ok-row.ensures.id);
       closed = λ unended all. c.loop.invariant.closed (reads.closed unended).0

@@ -11,7 +11,7 @@ abbrev pub invariant-loop-edits : goal.invariant-loop-edits
 invariant-loop-edits g l =
     IsReading l.rows
     × (length l.edits.items + length (rows_left l.rows) ≤ most_file_bytes)
-    × ((answer : Result (List (EditContent _)) ReadFault) → RowsGive (EditsRowGives (g.F.Format.reads l.fn.format)) (rows_read l.rows + 1) (map content_of l.edits.items)
+    × ((answer : Result (List (EditContent _)) ReadFault) → RowsGive (EditsRowGives (g.F.Format.reads l.fn.format).text) (rows_read l.rows + 1) (map content_of l.edits.items)
     (rows_left l.rows) answer → IsEditFile (g.F.Format.reads l.fn.format) l.bytes answer)
 
 abbrev pub decreases-loop-edits : goal.decreases-loop-edits

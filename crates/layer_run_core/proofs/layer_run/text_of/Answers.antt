@@ -10,4 +10,4 @@ pub returns-in-Err-clause-fault : goal.returns-in-Err-clause-fault
 returns-in-Err-clause-fault g c = λ blame. layer_fault _ (c.in-Err.ensures.reads.fault blame)
 
 pub returns-in-Ok-clause-marked : goal.returns-in-Ok-clause-marked
-returns-in-Ok-clause-marked g c = layer_marked _ _ _ _ _ c.text_from.result c.in-Ok.ensures.reads.ok c.text_from.ensures.marked
+returns-in-Ok-clause-marked g c = layer_marked _ (g.F.Format.reads c.args.reader.now.format) (g.L.Source.remaining c.args.source.now) c.in-Ok.features _ c.text_from.result c.in-Ok.ensures.reads.ok c.text_from.ensures.marked

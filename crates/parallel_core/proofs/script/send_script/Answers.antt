@@ -1,7 +1,8 @@
 use Rattle.std.proofs.Common.{◌≡◌, rules, arith, ◌∙◌}
 use Rattle.std.specs.Slice.Iter.{chunks_rest}
 use Rattle.deliver_core.specs.Scripts.{batches_for}
-use Rattle.parallel_core.proofs.Scripts.{no_batches, after_piece, says_batch, says_script}
+use Rattle.parallel_core.proofs.Results.{err_always}
+use Rattle.parallel_core.proofs.Scripts.{no_batches, after_piece, says_batch, says_part, says_script}
 use Rattle.parallel_core.proofs.script.send_script.Goals as goal
 
 pub loop-piece-preserved : goal.loop-piece-preserved
@@ -19,6 +20,12 @@ loop-piece-preserved g c =
       port = search rules;
       said = search (rules, says_batch, next.piece_is);
     }
+
+pub returns-in_err-pairs-clause-err : goal.returns-in_err-pairs-clause-err
+returns-in_err-pairs-clause-err g c =
+    let so_far = c.loop-piece.invariant in
+    err_always (says_part c.args.port.now c.loop-piece.port c.args.task c.args.job.now.batch c.args.row.now (chunks_rest c.loop-piece.piece-iterator)
+    c.loop-piece.number so_far.left so_far.said) c.from_residual.result
 
 pub returns-clause-ok : goal.returns-clause-ok
 returns-clause-ok g c =

@@ -9,4 +9,4 @@ pub returns-in_ok-push : goal.returns-in_ok-push
 returns-in_ok-push g c =
     let layer = c.args.layer.now.list in
     let found = subst (λ (t : Option (Bor g.row.G.Denot)). ShapeIs t (with_number c.args.number layer)) c.in-Some.is c.shape.ensures in
-    more_prepared g.M.Preparation.form_of layer c.args.features.now.items _ c.args.number c.in-Some.shape c.in_ok-geometry.geometry c.requires found c.in_ok-geometry.ensures c.in_ok-push.ensures.items
+    more_prepared g.M.Preparation.is_form layer c.args.features.now.items _ c.args.number c.in-Some.shape c.in_ok-geometry.geometry c.requires found c.in_ok-geometry.ensures c.in_ok-push.ensures.items

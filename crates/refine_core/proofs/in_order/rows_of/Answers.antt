@@ -1,9 +1,18 @@
-use Rattle.std.proofs.Common.{◌≡◌, ◌<◌, ◌++◌, ◌∷◌, [], ℕ, Contains, ◌∙◌, append_assoc, append-nil, sym, ap, subst, arith}
+use Rattle.std.proofs.Common.{◌≡◌, ◌++◌, ◌∷◌, [], ℕ, ◌<◌, Contains, ◌∙◌, append_assoc, subst, arith}
 use Rattle.std.specs.Vec.Iter.{into_iter_items}
-use Rattle.std.proofs.lemmas.List.{length-set, nil_from_length}
+use Rattle.std.proofs.lemmas.List.{length-set}
 use Rattle.refine_core.specs.Parts.{numbers_of, HasRow}
-use Rattle.refine_core.proofs.PartLemmas.{item_of, row_more}
+use Rattle.refine_core.proofs.PartLemmas.{all_yielded, item_of, row_more}
 use Rattle.refine_core.proofs.in_order.rows_of.Goals as goal
+
+pub index_mut-requires : goal.index_mut-requires
+index_mut-requires g c =
+    let before = c.loop-part.invariant in
+    let part = c.in-Some.part in
+    let yielded = c.loop-part.yielded in
+    let split : yielded ++ part ∷ into_iter_items c.next.new.self ≡ c.args.parts.items = rw (← c.in-Some.ensures.steps.0) before.parts in
+    let below = item_of (λ p. p.chunk < c.args.chunks) c.args.parts.items yielded (into_iter_items c.next.new.self) part split c.requires in
+    omega (arith, below, before.len)
 
 pub loop-part-preserved : goal.loop-part-preserved
 loop-part-preserved g c =
@@ -20,8 +29,6 @@ loop-part-preserved g c =
 
 pub returns-clause-rows : goal.returns-clause-rows
 returns-clause-rows g c =
-    let ended : into_iter_items c.loop-part.part-iterator ≡ [] =
-    nil_from_length _ (omega (arith, c.loop-part.part-iterator.rest.ok, c.in-None.ensures.steps.0)) in
-    let all : c.loop-part.yielded ≡ c.args.parts.items =
-    sym (append-nil c.loop-part.yielded) ∙ ap (λ rest. c.loop-part.yielded ++ rest) (sym ended) ∙ c.loop-part.invariant.parts in
+    let all = all_yielded c.loop-part.yielded (into_iter_items c.loop-part.part-iterator) c.args.parts.items c.loop-part.invariant.parts
+    (omega (arith, c.loop-part.part-iterator.rest.ok, c.in-None.ensures.steps.0)) in
     subst (λ parts. (number : ℕ) → Contains (numbers_of parts) number → HasRow parts c.loop-part.rows.items number) all c.loop-part.invariant.rows

@@ -1,10 +1,27 @@
-use Rattle.std.proofs.Common.{◌≡◌, ◌<◌, length, sym, ap, ◌∙◌, subst, arith, rules}
+use Rattle.std.proofs.Common.{◌≡◌, ◌<◌, length, refl, sym, ap, ◌∙◌, subst, arith, rules}
 use Rattle.std.proofs.lemmas.List.{length-replicate}
+use Rattle.std.proofs.lemmas.List.Elements.{All-replicate, All-same}
 use Rattle.std.proofs.lemmas.Result.{IfOk-weaker}
+use Rattle.deliver_core.specs.Boards.{fresh_seat}
 use Rattle.refine_core.specs.Refinements.{AreRefined}
 use Rattle.refine_core.proofs.ChunkLemmas.{some_chunks}
 use Rattle.refine_core.proofs.GatherLemmas.{all_gathered, all_parted, numbers_counted, rows_joined}
 use Rattle.refine_core.proofs.refine.refine_by_workers.Goals as goal
+
+pub refine_each-requires : goal.refine_each-requires
+refine_each-requires g c = c.requires.near
+
+pub run_workers-requires-clause-near : goal.run_workers-requires-clause-near
+run_workers-requires-clause-near g c κs lives = c.requires.near
+
+pub run_workers-requires-clause-chunks : goal.run_workers-requires-clause-chunks
+run_workers-requires-clause-chunks g c κs lives =
+    λ number below. c.chunk_count-chunks.ensures.numbers number (omega (arith, below, c.in_ok-board.ensures.board.0))
+
+pub run_workers-requires-clause-seats : goal.run_workers-requires-clause-seats
+run_workers-requires-clause-seats g c κs lives =
+    let fresh = fresh_seat c.in_ok-board.board in
+    All-same (λ seat. seat ≡ fresh) _ _ c.in_ok-board.ensures.seats (All-replicate (λ seat. seat ≡ fresh) _ fresh refl)
 
 pub close-requires-clause-all : goal.close-requires-clause-all
 close-requires-clause-all g c =

@@ -4,13 +4,14 @@ use Rattle.wkt_core.specs.ListSteps.{TakesPoints}
 use Rattle.wkt_core.proofs.FrontLemmas.{symbol_begins}
 use Rattle.wkt_core.proofs.ItemLemmas.{behind_item}
 use Rattle.wkt_core.proofs.PointLemmas.{lists_exact}
+use Rattle.wkt_core.specs.Spelling.{HasGoodNumbers, position}
 use Rattle.wkt_any_core.specs.Held.{AddsPaths}
 use Rattle.wkt_any_core.proofs.LoopLemmas.{so_far_none, so_far_more, so_far_ended, so_far_no_item, so_far_no_end}
 use Rattle.wkt_any_core.proofs.PathLemmas.{paths_none, paths_more}
 use Rattle.wkt_any_core.proofs.list.read_lists.Goals as goal
 
 pub loop-after-init : goal.loop-after-init
-loop-after-init c = so_far_none (TakesPoints c.args.scale) (λ xs. AddsPaths c.args.scale c.args.paths.now xs c.args.paths.now) _ (paths_none c.args.scale c.args.paths.now)
+loop-after-init c = so_far_none (TakesPoints c.args.scale) (λ xs. AddsPaths c.args.scale c.args.paths.now xs c.args.paths.now) _ (paths_none (HasGoodNumbers c.args.scale) (position c.args.scale) c.args.paths.now)
 
 pub returns-in_default-2-clause-none : goal.returns-in_default-2-clause-none
 returns-in_default-2-clause-none c =
@@ -34,12 +35,12 @@ loop-after-preserved c =
     let (x, taken, adds) = rw (c.in-Some-2.is, c.skip_blanks-start.ensures) at c.in_ok-after.ensures.some in
     let next : skip c.in-Some-2.after.now ≡ 44 ∷ c.in-Item.behind.now = rw c.in-Item.is at c.in-Some-read_next.ensures in
     so_far_more (TakesPoints c.args.scale) (λ xs. AddsPaths c.args.scale c.args.paths.now xs c.loop-after.paths) (λ xs. AddsPaths c.args.scale c.args.paths.now xs c.read_points.new.paths) x _ _ _ _ taken
-    (λ done held. paths_more c.args.scale _ _ _ done (x ∷ []) held adds) c.loop-after.invariant next
+    (λ done held. paths_more (HasGoodNumbers c.args.scale) (position c.args.scale) _ _ _ done (x ∷ []) held adds) c.loop-after.invariant next
 
 pub returns-in-End-clause-some : goal.returns-in-End-clause-some
 returns-in-End-clause-some c =
     let (x, taken, adds) = rw (c.in-Some-2.is, c.skip_blanks-start.ensures) at c.in_ok-after.ensures.some in
     let next : skip c.in-Some-2.after.now ≡ 41 ∷ c.in-End.behind.now = rw c.in-End.is at c.in-Some-read_next.ensures in
     let (xs, enclosed, held) = so_far_ended (TakesPoints c.args.scale) (λ xs. AddsPaths c.args.scale c.args.paths.now xs c.loop-after.paths) (λ xs. AddsPaths c.args.scale c.args.paths.now xs c.read_points.new.paths) x _ _ _ _ taken
-    (λ done held. paths_more c.args.scale _ _ _ done (x ∷ []) held adds) c.loop-after.invariant _ (symbol_begins 40 _ _ (sym c.in-Some.ensures)) next in
+    (λ done held. paths_more (HasGoodNumbers c.args.scale) (position c.args.scale) _ _ _ done (x ∷ []) held adds) c.loop-after.invariant _ (symbol_begins 40 _ _ (sym c.in-Some.ensures)) next in
     (xs, enclosed, held)

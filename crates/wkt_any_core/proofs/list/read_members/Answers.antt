@@ -1,5 +1,6 @@
-use Rattle.std.proofs.Common.{◌≡◌, ◌∷◌, sym}
+use Rattle.std.proofs.Common.{◌≡◌, [], ◌∷◌, sym}
 use Rattle.wkt_core.specs.TokenSteps.{skip}
+use Rattle.wkt_core.specs.Spelling.{HasGoodNumbers, position}
 use Rattle.wkt_any_core.specs.Steps.{TakesMember}
 use Rattle.wkt_core.proofs.FrontLemmas.{symbol_begins}
 use Rattle.wkt_core.proofs.ItemLemmas.{behind_item}
@@ -10,7 +11,7 @@ use Rattle.wkt_any_core.proofs.PathLemmas.{points_none, points_more, points_ende
 use Rattle.wkt_any_core.proofs.list.read_members.Goals as goal
 
 pub loop-after-init : goal.loop-after-init
-loop-after-init c = so_far_none (TakesMember c.args.scale) (λ xs. AddsPoints c.args.scale c.args.paths.now xs c.args.paths.now) _ (points_none c.args.scale c.args.paths.now)
+loop-after-init c = so_far_none (TakesMember c.args.scale) (λ xs. AddsPoints c.args.scale c.args.paths.now xs c.args.paths.now) _ (points_none (HasGoodNumbers c.args.scale) (position c.args.scale) c.args.paths.now)
 
 pub returns-in_default-2-clause-none : goal.returns-in_default-2-clause-none
 returns-in_default-2-clause-none c =
@@ -34,12 +35,12 @@ loop-after-preserved c =
     let (x, taken, adds) = rw (c.in-Some-2.is, c.skip_blanks-start.ensures) at c.in_ok-after.ensures.some in
     let next : skip c.in-Some-2.after.now ≡ 44 ∷ c.in-Item.behind.now = rw c.in-Item.is at c.in-Some-read_next.ensures in
     so_far_more (TakesMember c.args.scale) (λ xs. AddsPoints c.args.scale c.args.paths.now xs c.loop-after.paths) (λ xs. AddsPoints c.args.scale c.args.paths.now xs c.read_member.new.paths) x _ _ _ _ taken
-    (λ done held. points_more c.args.scale _ _ _ done x held adds) c.loop-after.invariant next
+    (λ done held. points_more (HasGoodNumbers c.args.scale) (position c.args.scale) _ _ _ done (x ∷ []) held adds) c.loop-after.invariant next
 
 pub returns-in-End-clause-some : goal.returns-in-End-clause-some
 returns-in-End-clause-some c =
     let (x, taken, adds) = rw (c.in-Some-2.is, c.skip_blanks-start.ensures) at c.in_ok-after.ensures.some in
     let next : skip c.in-Some-2.after.now ≡ 41 ∷ c.in-End.behind.now = rw c.in-End.is at c.in-Some-read_next.ensures in
     let (xs, enclosed, held) = so_far_ended (TakesMember c.args.scale) (λ xs. AddsPoints c.args.scale c.args.paths.now xs c.loop-after.paths) (λ xs. AddsPoints c.args.scale c.args.paths.now xs c.read_member.new.paths) x _ _ _ _ taken
-    (λ done held. points_more c.args.scale _ _ _ done x held adds) c.loop-after.invariant _ (symbol_begins 40 _ _ (sym c.in-Some.ensures)) next in
-    (xs, enclosed, points_ended c.args.scale _ _ _ xs held (c.in_ok-end_path-in-End.ensures c.args.scale))
+    (λ done held. points_more (HasGoodNumbers c.args.scale) (position c.args.scale) _ _ _ done (x ∷ []) held adds) c.loop-after.invariant _ (symbol_begins 40 _ _ (sym c.in-Some.ensures)) next in
+    (xs, enclosed, points_ended (HasGoodNumbers c.args.scale) (position c.args.scale) _ _ _ xs held c.in_ok-end_path-in-End.ensures)

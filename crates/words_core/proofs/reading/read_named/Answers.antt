@@ -1,5 +1,4 @@
-use Rattle.pair_core.specs.declared.product.Product.TheVariants.{Report, Picture}
-use Rattle.words_core.specs.Readings.{of_relate, of_join, of_near, of_nearest, of_window, of_stats, of_bounds}
+use Rattle.words_core.specs.Readings.{of_relate, of_join, of_draw, of_near, of_nearest, of_window, of_stats, of_bounds}
 use Rattle.words_core.proofs.ReadingLemmas.{fault_weaker, named, unnamed}
 use Rattle.words_core.proofs.reading.read_named.Goals as goal
 
@@ -9,7 +8,7 @@ returns-in-relate-clause-err c =
 
 pub returns-in-join-clause-err : goal.returns-in-join-clause-err
 returns-in-join-clause-err c =
-    fault_weaker _ _ _ (λ f h. named _ f _ _ c.in-join.is (of_join Report h)) (search)
+    fault_weaker _ _ _ (λ f h. named _ f _ _ c.in-join.is (of_join h)) (search)
 
 pub returns-in-near-clause-err : goal.returns-in-near-clause-err
 returns-in-near-clause-err c =
@@ -21,7 +20,7 @@ returns-in-nearest-clause-err c =
 
 pub returns-in-draw-clause-err : goal.returns-in-draw-clause-err
 returns-in-draw-clause-err c =
-    fault_weaker _ _ _ (λ f h. named _ f _ _ c.in-draw.is (of_join Picture h)) (search)
+    fault_weaker _ _ _ (λ f h. named _ f _ _ c.in-draw.is (of_draw h)) (search)
 
 pub returns-in-window-clause-err : goal.returns-in-window-clause-err
 returns-in-window-clause-err c =

@@ -1,11 +1,14 @@
-use Rattle.std.proofs.Common.{ap, ◌∙◌, arith, map}
+use Rattle.std.proofs.Common.{◌≡◌, ap, ◌∙◌, arith, map}
 use Rattle.std.proofs.lemmas.List.Elements.{All-push, All-same}
-use Rattle.deliver_core.specs.PassViews.{is_receiver, with_port, new_port}
+use Rattle.deliver_core.specs.PassViews.{is_receiver, with_port, new_port, ports_of, taken_of, met_of}
 use Rattle.deliver_core.specs.OutletCalls.{IsFreshPort}
 use Rattle.deliver_core.specs.Ports.{index_of}
-use Rattle.deliver_core.proofs.OutletRule.{makes}
+use Rattle.deliver_core.proofs.OutletRule.{begins, makes}
 use Rattle.deliver_core.proofs.OutletCalls.{more_indexes, fresh_port}
 use Rattle.deliver_core.proofs.outlet.Outlet.new.Goals as goal
+
+pub ruled-requires : goal.ruled-requires
+ruled-requires c = record { cap = omega arith; rule = begins }
 
 pub another-own-requires-clause-rule : goal.another-own-requires-clause-rule
 another-own-requires-clause-rule c = makes _ _ (ap is_receiver c.loop-index.invariant.seen)
@@ -27,3 +30,9 @@ loop-index-preserved c =
       len = omega (arith, c.push_reserved.ensures.len);
       room = omega (arith, c.push_reserved.ensures.capacity);
     }
+
+pub returns-clause-tap : goal.returns-clause-tap
+returns-clause-tap c =
+    let before = c.loop-index.invariant in
+    let all : c.loop-index.index ≡ c.args.ports = omega (arith, c.loop-index.auto.index-end, c.loop-index-test.false) in
+    record { belongs = before.pass; count = ap ports_of before.seen ∙ all; idle = ap taken_of before.seen; alone = ap met_of before.seen }

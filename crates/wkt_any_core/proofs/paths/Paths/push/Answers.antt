@@ -1,12 +1,7 @@
-use Rattle.std.proofs.Common.{refl}
-use Rattle.wkt_any_core.proofs.PathLemmas.{on_ok, point_added, point_refused}
+use Rattle.wkt_core.specs.Spelling.{HasGoodNumbers, position}
+use Rattle.wkt_any_core.proofs.PathLemmas.{on_ok, added}
 use Rattle.wkt_any_core.proofs.paths.Paths.push.Goals as goal
 
-pub returns-in-Some : goal.returns-in-Some
-returns-in-Some c = on_ok c.step_to.result c.step_to.ensures (λ step scale p read skips before ps held.
-    let (good, is) = c.in-Some.ensures scale p read in
-    point_added scale skips before _ _ ps p c.in-Some.vertex good is step held)
-
-pub returns-in-None : goal.returns-in-None
-returns-in-None c = λ scale p read skips before ps held.
-    point_refused scale skips before _ _ ps p (c.in-None.ensures scale p read) refl refl held
+pub returns : goal.returns
+returns c = on_ok c.add.result c.add.ensures (λ step scale p read skips before ps held.
+    added (HasGoodNumbers scale) (position scale) skips before _ _ ps p _ (c.vertex_of-vertex.ensures scale p read) step held)

@@ -1,3 +1,0 @@
-pub mod AnyJoinLemmas
-pub mod AnyWindowLemmas
-pub mod IntersectionLemmas

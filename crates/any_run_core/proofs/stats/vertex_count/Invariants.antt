@@ -1,6 +1,0 @@
-use Rattle.std.proofs.Common.{◌≡◌, ◌+◌}
-use Rattle.any_run_core.specs.AnyStats.{vertices_in}
-use Rattle.any_run_core.proofs.stats.vertex_count.Given as goal
-
-abbrev pub invariant-loop-feature : goal.invariant-loop-feature
-invariant-loop-feature l = l.count + vertices_in l.feature-iterator ≡ vertices_in l.initial.feature-iterator

@@ -1,3 +1,0 @@
-pub mod AnyJoinings
-pub mod AnyStats
-pub mod AnyWindows

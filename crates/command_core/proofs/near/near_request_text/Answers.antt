@@ -1,0 +1,7 @@
+use Rattle.command_core.proofs.near.near_request_text.Goals as goal
+
+pub returns-in-Box : goal.returns-in-Box
+returns-in-Box g c = rw c.in-Box.is c.near_text.ensures
+
+pub returns-in-Any : goal.returns-in-Any
+returns-in-Any g c = rw c.in-Any.is c.near_text-in-Any.ensures

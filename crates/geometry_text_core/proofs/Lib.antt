@@ -1,0 +1,5 @@
+pub mod EachLemmas
+pub mod OnlyLemmas
+pub mod HexadecimalLemmas
+pub mod TextLemmas
+pub mod HeldLemmas

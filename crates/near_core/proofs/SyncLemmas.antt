@@ -1,0 +1,24 @@
+-- The condition of near features may be shared by threads, if geometries and their forms may.
+use denote.Ref.{NamedLft}
+use denote.RattleType.{RattleType}
+use denote.Param.Send.{IsSync, sendable}
+use Rattle.std.proofs.Crossing.{crosses}
+use Rattle.std.specs.declared.clone.Clone as Clone
+use Rattle.layer_core.specs.declared.geometry.Geometry as HasBox
+use Rattle.planar_core.specs.declared.planar.Planar as Planar
+use Rattle.planar_core.specs.declared.square.Square as Square
+use Rattle.prepared_core.proofs.SyncLemmas.{layer_sync}
+use Rattle.near_core.specs.contracts.grown.Grown as Grown
+use Rattle.near_core.specs.contracts.prepared.ForDistances as ForDistances
+use Rattle.near_core.specs.contracts.features.NearFeatures as NearFeatures
+
+grown_sync : (G : RattleType) → IsSync G → IsSync (Grown.the_row G)
+grown_sync G of_geometry = search (sendable, crosses) depth 60 fits 20000
+
+marker_sync : (G : RattleType) → IsSync G → IsSync (ForDistances.the_row G)
+marker_sync G of_geometry = search (sendable, crosses) depth 60 fits 20000
+
+pub near_sync : (κ : NamedLft) (G Q F : RattleType) (planar : Planar.Ghosts G.Denot Q.Denot F.Denot) (boxes : HasBox.Ghosts G.Denot)
+    (square : Square.Ghosts Q.Denot) (cloned : Clone.Ghosts Q.Denot) → IsSync G → IsSync F → IsSync (NearFeatures.the_row κ G Q F planar boxes square cloned)
+near_sync κ G Q F planar boxes square cloned of_geometry of_form =
+    search (sendable, crosses, layer_sync, grown_sync, marker_sync) depth 60 fits 20000

@@ -1,0 +1,4 @@
+pub mod AnyLemmas
+pub mod BoxLemmas
+pub mod BoxTouchLemmas
+pub mod TouchLemmas

@@ -1,0 +1,4 @@
+pub mod AnyPoints
+pub mod BoxPoints
+pub mod Forms
+pub mod Squares

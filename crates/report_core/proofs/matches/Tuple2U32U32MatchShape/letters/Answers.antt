@@ -1,8 +1,0 @@
-use Rattle.std.proofs.Common.{rules}
-use Rattle.report_core.proofs.ReportLemmas.{box_letters, shape_held}
-use Rattle.report_core.proofs.matches.Tuple2U32U32MatchShape.letters.Goals as goal
-
-pub returns : goal.returns
-returns c =
-    box_letters _ _ _ _ _ _ (shape_held _ _ _ (search) c.unwrap-first.ensures) (shape_held _ _ _ (search) c.unwrap-second.ensures)
-    (search rules)

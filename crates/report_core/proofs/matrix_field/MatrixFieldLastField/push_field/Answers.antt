@@ -1,6 +1,0 @@
-use Rattle.std.proofs.Common.{rules}
-use Rattle.report_core.proofs.ReportLemmas.{letters_added}
-use Rattle.report_core.proofs.matrix_field.MatrixFieldLastField.push_field.Goals as goal
-
-pub returns : goal.returns
-returns g c = letters_added _ _ _ _ _ _ _ c.extend_from_slice.result c.letters-letters.ensures (search rules)
