@@ -353,6 +353,7 @@ class Changed(unittest.TestCase):
         for module, root in ((changes, self.top), (crates, self.top), (mutants, str(self.top))):
             self.enterContext(patch.object(module, "ROOT", root))
         self.enterContext(patch.object(changes, "LOTS", 10**12))
+        self.enterContext(patch.dict(os.environ, GATE_BASE=""))
         self.write("crates.txt", "one:\none_tests: one\ntwo: one\ntwo_tests: two\n")
         for name in ("one", "two"):
             self.write(f"crates/{name}/src/lib.rt", LIBRARY)
