@@ -13,7 +13,7 @@ from collections.abc import Callable, Iterator
 from math import isqrt
 from pathlib import Path
 
-from plain_joins import Layer, Scale, decimal_of, edit, field_of, layer_of
+from plain_joins import Layer, Scale, add_layout, decimal_of, edit, field_of, layer_of
 
 Box = tuple[int, int, int, int]
 # The ids of a pair, and the square of its distance.
@@ -78,6 +78,7 @@ def options_of(words: list[str]) -> argparse.Namespace:
         command.add_argument("--distance", required=name == "near")
         command.add_argument("--scale", type=int, default=0)
         command.add_argument("--round", action="store_true")
+        add_layout(command)
         for option in ("--edits", "--workers", "--batch", "--cut"):
             command.add_argument(option)
     commands.choices["near"].add_argument("--apart", action="store_true")
@@ -89,7 +90,8 @@ def answer(words: list[str], read: Callable[[str], bytes]) -> bytes:
     """What the program has to write for these words, over the files that lie at the paths."""
     options = options_of(words)
     scale = Scale(options.scale, options.round)
-    first, second = (layer_of(read(path), scale) for path in options.layers)
+    layout = options.columns, options.delimiter
+    first, second = (layer_of(read(path), scale, *layout) for path in options.layers)
     if options.edits:
         edit(first, second, read(options.edits), scale)
     left, right = boxes_of(first), boxes_of(second)

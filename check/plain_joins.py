@@ -65,6 +65,8 @@ class Scale:
 
 
 WHOLE = Scale()
+# The names of the columns of a layer that names no others.
+COLUMNS = "id,wkt"
 
 
 class Binary:
@@ -121,13 +123,29 @@ def formed(kind: int, lists: list[list[Vertex]]) -> Geometry:
     return Geometry(kind, tuple(stepped(vertices) for vertices in lists))
 
 
+def table_of(content: bytes, delimiter: str = ",") -> list[list[str]]:
+    """The header of a file, and its rows."""
+    return list(csv.reader(io.StringIO(content.decode("utf-8-sig"), newline=""), delimiter=delimiter))
+
+
 def rows_of(content: bytes) -> list[list[str]]:
     """The rows of a file behind its header."""
-    return list(csv.reader(io.StringIO(content.decode("utf-8-sig"), newline="")))[1:]
+    return table_of(content)[1:]
 
 
-def layer_of(content: bytes, scale: Scale = WHOLE) -> Layer:
-    return {name: geometry_of(text, scale) for name, text in rows_of(content)}
+def layer_of(content: bytes, scale: Scale = WHOLE, columns: str = COLUMNS, delimiter: str = ",") -> Layer:
+    """The features of a file, by the columns of these names; a row's id is its number where one column is named."""
+    header, *rows = table_of(content, "\t" if delimiter == "tab" else delimiter)
+    names = [name.lower() for name in header]
+    *ids, geometries = (names.index(name.lower()) for name in columns.split(","))
+    return {row[ids[0]] if ids else str(number): geometry_of(row[geometries], scale)
+            for number, row in enumerate(rows, 1)}
+
+
+def add_layout(command: argparse.ArgumentParser) -> None:
+    """The options for how the files of layers are laid out."""
+    command.add_argument("--columns", default=COLUMNS)
+    command.add_argument("--delimiter", default=",")
 
 
 def edit(left: Layer, right: Layer, content: bytes, scale: Scale = WHOLE) -> None:
@@ -274,6 +292,7 @@ def options_of(words: list[str]) -> argparse.Namespace:
             command.add_argument(option)
         command.add_argument("--scale", type=int, default=0)
         command.add_argument("--round", action="store_true")
+        add_layout(command)
     commands.choices["window"].add_argument("wkt")
     commands.choices["join"].add_argument("--relation", required=True)
     for flag in ("--pairs", "--first", "--count", "--unmatched"):
@@ -292,7 +311,8 @@ def answer(words: list[str], read: Callable[[str], bytes]) -> bytes:
     """What the program has to write for these words, over the files that lie at the paths."""
     options = options_of(words)
     scale = Scale(options.scale, options.round)
-    first, *others = (layer_of(read(path), scale) for path in options.layers)
+    layout = options.columns, options.delimiter
+    first, *others = (layer_of(read(path), scale, *layout) for path in options.layers)
     if options.command == "bounds":
         return bounds(first)
     if options.command == "window":
