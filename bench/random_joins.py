@@ -3,10 +3,14 @@
 
     bench/random_joins.py [--joins N] [--seed S] [--workers N..] [--program PATH]
 
-Each join has layers, a command, options and a number of workers, 1 to 6 processes, that follow from its seed. Its
-report has to have the bytes of one run, or else, where something was made to fail, it has to end with one line that
-names a fault, and without a report. A line is printed for each join, and in the end their number; the status is 1 if
-one did neither.
+Each join has layers, a command, options, a number of workers, 1 to 6 processes, and a trouble, that follow from its
+seed. Its report has to have the bytes of one run, or else, where something was made to fail, it has to end with one
+line that names a fault, and without a report; a join that is gone on with has to have the bytes in the end. A line is
+printed for each join, and in the end their number; the status is 1 if one did neither.
+
+Troubles: a worker comes late, dies, or fails at everything; the program of one has another version; the program fails
+now and then; the command is ended by signals, all workers die, or the scheduler is killed, and the join goes on, the
+latter by another scheduler and its workers.
 """
 from __future__ import annotations
 
@@ -19,7 +23,7 @@ import sys
 import tempfile
 import threading
 import time
-from contextlib import contextmanager, redirect_stderr, suppress
+from contextlib import ExitStack, contextmanager, redirect_stderr, suppress
 from pathlib import Path
 from typing import Any, Iterator, NamedTuple, Sequence
 
@@ -32,11 +36,15 @@ import layers  # noqa: E402
 from rjoin_cluster import command  # noqa: E402
 
 new_cluster: Any = distributed.LocalCluster
+new_client: Any = distributed.Client
 
 KINDS = ("mixture", "rectangles", "points", "close", "cadastre")
 ANY_KINDS = ("roads", "zones", "neighbours")
 RELATIONS = ("intersects", "touches", "within", "overlaps", "equals", "T*F**F***")
-TROUBLES = ("none", "none", "late", "dies", "fails", "ended")
+TROUBLES = ("none", "late", "dies", "faulty", "other", "fails", "ended", "ended", "all die", "scheduler")
+GOES_ON = ("ended", "all die", "scheduler")
+MAY_FAIL = ("dies", "faulty", "other", "fails")
+TRIES = 5
 WAIT = 120
 
 
@@ -83,19 +91,29 @@ def edits_of(folder: Path, chance: random.Random, *paths: Path) -> Path:
     return edits
 
 
-def failing_program(folder: Path, program: str, often: int) -> str:
-    """A program that now and then, once it has been asked for its words, fails."""
+def failing_program(folder: Path, program: str, test: str) -> str:
+    """A program before which a shell makes a test of its words."""
     path = folder / "rjoin"
-    chance = f"$(($(od -An -N2 -tu2 /dev/urandom) % {often}))"
-    test = f'case "$*" in *--workers=1*|bounds*) [ {chance} = 0 ] && exit 1;; esac'
     path.write_text(f'#!/bin/sh\n{test}\nexec {program} "$@"\n')
     path.chmod(0o755)
     return str(path)
 
 
+def program_of(folder: Path, program: str, trouble: str, chance: random.Random, cluster: Any) -> str:
+    """The program of a join. The command itself is asked for its words, and so is never one that has trouble."""
+    one = list(cluster.workers.values())[0].process.process.pid
+    now_and_then = f"$(($(od -An -N2 -tu2 /dev/urandom) % {chance.choice((7, 40))}))"
+    tests = {
+        "fails": f'case "$*" in *--workers=1*|bounds*) [ {now_and_then} = 0 ] && exit 1;; esac',
+        "faulty": f'case "$*" in *--workers=1*|bounds*) [ $PPID = {one} ] && exit 1;; esac',
+        "other": f'[ "$PPID $1" = "{one} --version" ] && echo rjoin 0.0.0 && exit 0',
+    }
+    return failing_program(folder, program, tests[trouble]) if trouble in tests else program
+
+
 @contextmanager
 def troubled(cluster: Any, trouble: str, chance: random.Random) -> Iterator[None]:
-    """Has a worker come or die meanwhile."""
+    """Has a worker come or die meanwhile, or all die, in whose place the cluster starts others."""
     delay = chance.uniform(0.1, 2.0)
 
     def happen() -> None:
@@ -105,6 +123,9 @@ def troubled(cluster: Any, trouble: str, chance: random.Random) -> Iterator[None
                 cluster.scale(len(cluster.workers) + 1)
             elif trouble == "dies":
                 next(iter(cluster.workers.values())).process.process.kill()
+            elif trouble == "all die":
+                for worker in cluster.workers.values():
+                    worker.process.process.kill()
 
     thread = threading.Thread(target=happen)
     thread.start()
@@ -139,6 +160,50 @@ def run_and_end(words: Sequence[str], chance: random.Random) -> Done:
     return run(words)
 
 
+def run_until_done(words: Sequence[str]) -> Done:
+    """Lets a join go on that ends with a fault of workers."""
+    done = run(words)
+    for _ in range(TRIES):
+        if done.status != 0 and is_fault(done.errors) and "rjoin-cluster: " in done.errors:
+            done = run(words)
+    return done
+
+
+@contextmanager
+def own_cluster(folder: Path, workers: int, local: str) -> Iterator[tuple[str, Any]]:
+    """A scheduler in a process of its own, with workers: its address and the process."""
+    folder.mkdir()
+    told = folder / "scheduler.json"
+    places = {"scheduler": ["--host", "127.0.0.1", "--port", "0", "--dashboard-address", "127.0.0.1:0"],
+              "worker": ["--nthreads", "1", "--no-nanny", "--local-directory", local]}
+    with ExitStack() as stack:
+        processes = []
+        for part in ["scheduler", *["worker"] * workers]:
+            words = [sys.executable, "-m", f"distributed.cli.dask_{part}", "--no-dashboard", *places[part]]
+            words += ["--scheduler-file", str(told)]
+            process = subprocess.Popen(words, stdout=subprocess.DEVNULL, stderr=subprocess.DEVNULL)
+            processes.append(stack.enter_context(process))
+            stack.callback(processes[-1].kill)
+        with new_client(scheduler_file=str(told), timeout=WAIT) as client:
+            client.wait_for_workers(workers, timeout=WAIT)
+            address = client.scheduler.address
+        yield address, processes[0]
+
+
+def run_and_kill_scheduler(words: Sequence[str], folder: Path, chance: random.Random, local: str) -> Done:
+    """Kills the scheduler of a join at some time, and lets the join go on by another one."""
+    workers = chance.choice((1, 2))
+    with own_cluster(folder / "first", workers, local) as (address, scheduler):
+        whole = [sys.executable, "-m", "rjoin_cluster", *words, "--scheduler", address]
+        with subprocess.Popen(whole, stdout=subprocess.DEVNULL, stderr=subprocess.DEVNULL) as process:
+            with suppress(subprocess.TimeoutExpired):
+                process.wait(chance.uniform(0.8, 4.0))
+            scheduler.kill()
+            process.wait(WAIT)
+    with own_cluster(folder / "second", chance.choice((1, 2)), local) as (address, _):
+        return run([*words, "--scheduler", address])
+
+
 def is_fault(errors: str) -> bool:
     """Whether a command has told one fault, beside what it tells of workers and of its scheduler."""
     lines = [line for line in errors.splitlines() if "no TLS" not in line and "gets no more tasks" not in line
@@ -146,7 +211,7 @@ def is_fault(errors: str) -> bool:
     return len(lines) == 1 and lines[0].startswith(("rjoin-cluster: ", "rjoin: "))
 
 
-def joined(seed: int, program: str, cluster: Any) -> str:
+def joined(seed: int, program: str, cluster: Any, local: str) -> str:
     """What came of a join: `same`, `fault`, or what is wrong with it."""
     chance = random.Random(seed)
     trouble = chance.choice(TROUBLES)
@@ -155,15 +220,21 @@ def joined(seed: int, program: str, cluster: Any) -> str:
         words = words_of(folder, chance)
         one = subprocess.run([program, *words], capture_output=True, check=False)
         report = folder / "report.csv"
-        used = failing_program(folder, program, chance.choice((7, 40))) if trouble == "fails" else program
-        more = ["--out", str(report), "--program", used, "--scheduler", cluster.scheduler_address, "--patience", "20",
+        more = ["--out", str(report), "--program", program_of(folder, program, trouble, chance, cluster),
+                "--scheduler", cluster.scheduler_address, "--patience", "60",
                 "--block", str(chance.choice((700, 5000, 10**6)))]
         if chance.random() < 0.7:
             more += ["--tiles", str(chance.choice((2, 9, 30)))]
-        if trouble == "ended":
+        if trouble in GOES_ON:
             more += ["--resume", str(folder / "kept")]
+        whole = [*words, *more]
         with troubled(cluster, trouble, chance):
-            done = run_and_end([*words, *more], chance) if trouble == "ended" else run([*words, *more])
+            if trouble == "ended":
+                done = run_and_end(whole, chance)
+            elif trouble == "scheduler":
+                done = run_and_kill_scheduler(whole, folder, chance, local)
+            else:
+                done = run_until_done(whole) if trouble == "all die" else run(whole)
         return f"{trouble}: {outcome(one, done, report, trouble)}"
 
 
@@ -174,7 +245,7 @@ def outcome(one: Any, done: Done, report: Path, trouble: str) -> str:
     errors = done.errors
     if one.returncode == done.status != 0 and one.stderr.decode() in errors:
         return "same fault as one run"
-    if report.exists() or trouble not in ("dies", "fails") or not is_fault(errors):
+    if report.exists() or trouble not in MAY_FAIL or not is_fault(errors):
         return f"FAULT: {done.status}: {errors.strip()}"
     return "fault"
 
@@ -187,7 +258,7 @@ def main(options: argparse.Namespace) -> int:
     for workers in options.workers:
         with new_cluster(n_workers=workers, threads_per_worker=1, **place) as cluster:
             for seed in seeds[workers % 6:: 6]:
-                came = joined(seed, options.program, cluster)
+                came = joined(seed, options.program, cluster, options.local)
                 cluster.scale(workers)
                 print(f"{seed}: {workers} workers, {came}", flush=True)
                 what = came.split(": ", 1)[1]

@@ -5,19 +5,20 @@ import numpy as np
 import pytest
 from conftest import Tools, quoted, write_layer
 
-from rjoin_cluster.box_layers import Numerals, layer_text, moved
+from rjoin_cluster.box_layers import Numerals, Spelling, layer_text, spelling_of
 
 BOXES = np.array([[1_000_007, -9_000_001, 1_000_107, -9_000_001], [1_000_000, -9_000_005] * 2])
 
 
 def test_boxes_are_moved_together() -> None:
     """By one vector, so that the least corner of all is the origin, and then written shorter."""
-    numerals = Numerals(7, True)
-    (ones, others), near = moved([BOXES[:1], BOXES[1:]], numerals)
-    assert (ones.tolist(), others.tolist()) == ([[7, 4, 107, 4]], [[0, 0, 0, 0]])
-    assert near == Numerals(3, False)
-    text = layer_text(ones, near).tobytes()
-    assert text.startswith(b'0,"LINESTRING(007 004,107 004) ') and text.endswith(b' "\n')
+    spelling = spelling_of([BOXES[:1], BOXES[1:]], Numerals(7, True))
+    assert spelling == Spelling(Numerals(3, False), (1_000_000, -9_000_005))
+    for boxes, begin in (
+        (BOXES[:1], b'0000,"LINESTRING(007 004,107 004) '), (BOXES[1:], b'0000,"POINT(000 000) ')
+    ):
+        text = layer_text(boxes, spelling).tobytes()
+        assert text.startswith(begin) and text.endswith(b' "\n')
 
 
 @pytest.mark.parametrize("low, high", [(0, 9), (-(10**12), 10**12)])
@@ -25,8 +26,8 @@ def test_boxes_whose_numbers_get_no_shorter_stay(low: int, high: int) -> None:
     """Also where they would leave the plane."""
     boxes = [np.array([[low, low, low, low]]), np.array([[high, high, high, high]])]
     numerals = Numerals(len(str(high)), low < 0)
-    assert moved(boxes, numerals) == (boxes, numerals)
-    assert moved([boxes[0], boxes[1][:0]], numerals)[0][0] is boxes[0]
+    assert spelling_of(boxes, numerals) == Spelling(numerals)
+    assert spelling_of([boxes[0], boxes[1][:0]], numerals) == Spelling(numerals)
 
 
 def test_far_from_the_origin(tools: Tools) -> None:

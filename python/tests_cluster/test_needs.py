@@ -28,9 +28,9 @@ def test_what_a_worker_lacks(tools: Tools, monkeypatch: pytest.MonkeyPatch) -> N
     save_inputs(layout, [*files[Side.LEFT], *files[Side.RIGHT]])
     needs = Needs(layout, program, program.version())
     assert "No such file" in lack_of(needs)
-    layout.token().write_bytes(b"of others")
+    Path(layout.token()).write_bytes(b"of others")
     assert lack_of(needs) == f"{tools.folder} is not the folder of the join"
-    layout.token().write_bytes(TOKEN)
+    Path(layout.token()).write_bytes(TOKEN)
     assert lack_of(needs) == ""
     assert list(tools.folder.glob("check-*")) == []
     assert lack_of(replace(needs, version="rjoin 0")).endswith("and not rjoin 0")
@@ -56,9 +56,9 @@ def test_a_task_of_a_process_that_was_not_checked(tools: Tools) -> None:
     with pytest.raises(Unfit, match="No such file"):
         checked(needs, done.append, 1)
     assert done == []
-    layout.token().write_bytes(TOKEN)
+    Path(layout.token()).write_bytes(TOKEN)
     checked(needs, done.append, 2)
-    layout.token().unlink()  # which is looked at once
+    Path(layout.token()).unlink()  # which is looked at once
     checked(needs, done.append, 3)
     assert done == [2, 3]
 
@@ -72,7 +72,7 @@ def test_a_worker_of_another_user(tools: Tools, mode: int, path: str) -> None:
     layout, program = Layout(str(tools.folder / "shared")), Program(tools.program, Reading())
     Path(layout.folder).mkdir(mode)
     save_bytes(layout.token(), [TOKEN])
-    layout.token().chmod(0o644)
+    Path(layout.token()).chmod(0o644)
     lack = as_another_user(lambda: lack_of(Needs(layout, program, "rjoin")))
     assert lack.startswith(f"[Errno 13] Permission denied: '{layout.folder}/{path}")
     assert lack.endswith("; a worker has to be of the user of the join, and this one is user 65534")

@@ -7,7 +7,15 @@ import random
 import numpy as np
 import pytest
 
-from rjoin_cluster.records import Bytes, State, block_begins, record_ends, scan, scan_ends
+from rjoin_cluster.records import (
+    Bytes,
+    State,
+    block_begins,
+    record_ends,
+    scan,
+    scan_ends,
+    second_fields,
+)
 
 ENDS = "\r\n"
 STATES = {
@@ -101,3 +109,35 @@ def test_a_quote_between_both_ends() -> None:
         assert found is not None and found.passages == scan(text).passages
     plain = array_of("a,b\n")
     assert scan_ends(plain, plain, 100) is None
+
+
+def second_fields_by_letters(text: str) -> list[tuple[int, int]]:
+    """Where the second field of each record lies, letter by letter."""
+    fields: list[tuple[int, int]] = []
+    state, begin, comma = "start of record", 0, -1
+    for place, letter in enumerate(text + "\n"):
+        state = step(state, letter)
+        if state == "start of field":
+            comma = place
+        if state == "start of record":
+            if place > begin:
+                fields.append((comma + 1, place))
+            begin = place + 1
+    return fields
+
+
+@pytest.mark.parametrize("seed", range(300))
+def test_second_fields(seed: int) -> None:
+    """Of ids that are all bare, and of some that are quoted; between records are empty lines."""
+    chance = random.Random(seed)
+    names = ["a", "a long name", 'x"y', "", *(['"q"', '"a,b"', '"l\nm"', '"d""d"'] * (seed % 2))]
+    shapes = ["POINT (1 2)", '"POLYGON ((0 0, 1 1))"', '"a\nb, c"', '""', "x\ty", '"a""b,c"']
+    ends = ["\n", "\r\n", "\n\n", "\r"]
+    rows = [
+        f"{chance.choice(names)},{chance.choice(shapes)}{chance.choice(ends)}"
+        for _ in range(chance.randint(0, 9))
+    ]
+    text = "".join(rows)
+    text = text.rstrip(ENDS) if chance.random() < 0.3 else text
+    found = second_fields(np.frombuffer(text.encode(), dtype=np.uint8))
+    assert list(map(tuple, found.tolist())) == second_fields_by_letters(text)

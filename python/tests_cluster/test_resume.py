@@ -245,14 +245,14 @@ def test_chunks_have_each_byte_once(
     chunks, jobs = Chunks(layout, len(header)), list[PlaceJob]()
     texts = [bytes([65 + part]) * size for part, size in enumerate(sizes)]
     for part, text in enumerate(texts):
-        layout.report_part(part).write_bytes(text)
+        Path(layout.report_part(part)).write_bytes(text)
         jobs += chunks.add(part, len(text))
     jobs += chunks.rest()
-    layout.report().write_bytes(header)
+    Path(layout.report()).write_bytes(header)
     for job in jobs[::-1]:
         assert job.begin == len(header) or job.begin % 100 == 0
         assert placing.place_chunk(job) == job.bytes > 0
-    assert layout.report().read_bytes() == header + b"".join(texts)
+    assert Path(layout.report()).read_bytes() == header + b"".join(texts)
 
 
 def test_a_system_that_does_not_copy_by_itself(
@@ -263,10 +263,10 @@ def test_a_system_that_does_not_copy_by_itself(
 
     monkeypatch.setattr(os, "copy_file_range", refuse)
     layout = Layout(str(tmp_path))
-    layout.report_part(0).write_bytes(b"abcdef")
-    layout.report().write_bytes(b"..")
+    Path(layout.report_part(0)).write_bytes(b"abcdef")
+    Path(layout.report()).write_bytes(b"..")
     job = PlaceJob(layout, 2, (Share(0, 1, 3),))
-    assert placing.place_chunk(job) == 3 and layout.report().read_bytes() == b"..bcd"
+    assert placing.place_chunk(job) == 3 and Path(layout.report()).read_bytes() == b"..bcd"
     with pytest.raises(OSError, match="shorter than it was"):
         placing.place_chunk(PlaceJob(layout, 2, (Share(0, 4, 9),)))
 

@@ -6,7 +6,7 @@ from dataclasses import dataclass
 import numpy as np
 from numpy.typing import NDArray
 
-from rjoin_cluster.digits import numbers_in
+from rjoin_cluster.digits import MINUS, numbers_in
 from rjoin_cluster.faults import RunFailed
 from rjoin_cluster.ids import IdTable, id_table
 from rjoin_cluster.records import COMMA, Bytes, Places, field_ends
@@ -70,9 +70,10 @@ def are_field_ends(text: Bytes, ends: Places) -> bool:
 def boxes_of(text: Bytes, ends: Places) -> Boxes:
     """The boxes of the rows whose fields end there."""
     boxes = np.empty((len(ends), 4), dtype=np.int64)
+    signed = bool((text == MINUS).any())
     for begin in range(0, len(ends), ROWS_AT_ONCE):
         part = np.ascontiguousarray(ends[begin:begin + ROWS_AT_ONCE].T)
-        boxes[begin:begin + ROWS_AT_ONCE] = numbers_in(text, part[:-1] + 1, part[1:]).T
+        boxes[begin:begin + ROWS_AT_ONCE] = numbers_in(text, part[:-1] + 1, part[1:], signed).T
     return boxes
 
 

@@ -7,7 +7,7 @@ from dataclasses import dataclass
 
 import numpy as np
 
-from rjoin_cluster.layout import Layout, save_rows
+from rjoin_cluster.layout import Layout, contents_of, save_rows
 from rjoin_cluster.records import Places
 from rjoin_cluster.sides import Side
 
@@ -29,7 +29,7 @@ class Choice:
         """The rows that are joined of a block of so many features."""
         if block not in self.blocks:
             return np.arange(count)
-        return np.fromfile(layout.chosen(side, block, self.round), dtype=np.int64)
+        return np.frombuffer(contents_of(layout.chosen(side, block, self.round)), dtype=np.int64)
 
     def rows_between(self, layout: Layout, side: Side, first: int, firsts: list[int]) -> Places:
         """The same of blocks that stand side by side, from this one on, which begin at these rows;

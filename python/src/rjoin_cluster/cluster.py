@@ -3,6 +3,7 @@ from __future__ import annotations
 
 import logging
 import sys
+import tempfile
 import time
 import warnings
 from contextlib import contextmanager, suppress
@@ -20,6 +21,15 @@ from rjoin_cluster.watch import TIMEOUTS, Watch
 
 CLOSING = 1.0  # seconds that a scheduler has to answer that the join has ended
 LOOPBACK = "127.0.0.1"
+# dask looks at itself many times a second, and who has no dashboard never sees what it found: at
+# the stacks of workers, at the processor and the memory, and at whether its loop is late. It also
+# looks for tasks of one worker for another one, where none may go.
+UNWATCHED = {
+    "distributed.worker.profile.interval": "1s",
+    "distributed.admin.system-monitor.interval": "5s",
+    "distributed.admin.tick.interval": "2s",
+    "distributed.scheduler.work-stealing": False,
+}
 OPEN_PORTS = (
     "no TLS: whoever reaches the ports of the scheduler or of a worker can run code as you"
 )
@@ -46,17 +56,16 @@ def connected(place: Place, layout: Layout) -> Iterator[Watch]:
     """A watched client of the cluster, which has a worker at least."""
     silence_engine()
     dask.config.set({"distributed.comm.timeouts.connect": f"{place.patience:g}s"})
-    # dask looks at the stacks of its workers a hundred times a second, and who has no dashboard
-    # never sees what it found
-    dask.config.set({} if place.dashboard else {"distributed.worker.profile.interval": "1s"})
+    dask.config.set({} if place.dashboard else UNWATCHED)
     if place.scheduler is None:
-        with local_cluster(place, layout) as cluster, client_of(cluster, place) as client:
-            try:
-                yield Watch(client, place.patience)
-            finally:
-                with ended_runs():
-                    client.close(CLOSING)
-                    cluster.close()
+        with own_folder(layout) as folder, local_cluster(place, folder) as cluster:
+            with client_of(cluster, place) as client:
+                try:
+                    yield Watch(client, place.patience)
+                finally:
+                    with ended_runs():
+                        client.close(CLOSING)
+                        cluster.close()
         return
     warn_of_open_ports(place.scheduler)
     with remote_client(place) as client:
@@ -133,10 +142,21 @@ def wait_for_worker(watch: Watch, scheduler: str) -> None:
         time.sleep(0.1)
 
 
-def local_cluster(place: Place, layout: Layout) -> Any:
-    """Workers of one thread each in this process, whose own files lie in the folder of the join and
-    go with it. NumPy computes and rjoin runs beside each other in them, as both hold no lock of
-    Python's.
+@contextmanager
+def own_folder(layout: Layout) -> Iterator[str]:
+    """A folder for what dask's workers write themselves: in that of the join, with which it goes,
+    unless this is at a URL.
+    """
+    if layout.is_remote:
+        with tempfile.TemporaryDirectory(prefix="rjoin-cluster-") as folder:
+            yield folder
+    else:
+        yield str(layout.path("workers"))
+
+
+def local_cluster(place: Place, folder: str) -> Any:
+    """Workers of one thread each in this process, whose own files lie in a folder. NumPy computes
+    and rjoin runs beside each other in them, as both hold no lock of Python's.
     """
     link = f"{{scheme}}://{LOOPBACK}:{{port}}/status"
     dask.config.set({"distributed.dashboard.link": link})
@@ -155,7 +175,7 @@ def local_cluster(place: Place, layout: Layout) -> Any:
             "nthreads": 1,
             "memory_limit": 0,  # each would take the memory of all for its own
             "dashboard": False,
-            "local_directory": str(layout.file("workers")),
+            "local_directory": folder,
         },
     }
     workers = {number: worker for number in range(place.workers)}

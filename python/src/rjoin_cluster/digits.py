@@ -5,7 +5,7 @@ import numpy as np
 from numpy.typing import NDArray
 
 from rjoin_cluster.records import Bytes, Places
-from rjoin_cluster.words import KEEPS_LAST, WORD, Words, last_bytes, words_at
+from rjoin_cluster.words import WORD, Words, last_bytes, words_at
 
 Texts = NDArray[np.void]  # each text is one element
 
@@ -53,23 +53,16 @@ def put(text: Bytes, at: int, texts: Texts) -> None:
         np.ndarray(len(text), texts.dtype, text, at, text.strides[:1])[...] = texts
 
 
-def numbers_before(text: Bytes, ends: range, digits: int) -> Places:
-    """The numbers of so many digits, at most eight, that end before these places."""
-    words: Words = np.ndarray(len(ends), "<u8", text, ends.start - WORD, (ends.step,))
-    return number_of_digits((words ^ ZEROS) & KEEPS_LAST[digits])
-
-
-def numbers_ending(text: Bytes, ends: Places, digits: int) -> Places:
-    """The same, of places at any distance from each other."""
-    return number_of_digits(digits_before(text, ends) & KEEPS_LAST[digits])
-
-
-def numbers_in(text: Bytes, begins: Places, ends: Places) -> Places:
+def numbers_in(text: Bytes, begins: Places, ends: Places, signed: bool = True) -> Places:
     """The numbers that stand between these places of a text: of at most 16 digits, with a minus
-    sign where they are below 0. None ends within the first 16 bytes. Anything else is a ValueError.
+    sign where they are below 0, if signs are looked for. None ends within the first 16 bytes.
+    Anything else is a ValueError.
     """
-    below_zero = text.take(begins) == MINUS
-    digits = ends - begins - below_zero
+    digits = ends - begins
+    below_zero = None
+    if signed:
+        below_zero = text.take(begins) == MINUS
+        digits -= below_zero
     longest = int(digits.max(initial=1))
     if digits.min(initial=1) < 1 or longest > MOST_DIGITS:
         raise ValueError(f"not 1 to {MOST_DIGITS} digits")
@@ -77,7 +70,7 @@ def numbers_in(text: Bytes, begins: Places, ends: Places) -> Places:
     if longest > WORD:
         high = last_bytes(digits_before(text, ends - WORD), digits - WORD)
         numbers += 10**WORD * number_of_digits(high)
-    return np.negative(numbers, out=numbers, where=below_zero)
+    return numbers if below_zero is None else np.negative(numbers, out=numbers, where=below_zero)
 
 
 def digits_before(text: Bytes, ends: Places) -> Words:

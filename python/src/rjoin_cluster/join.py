@@ -2,6 +2,7 @@
 from __future__ import annotations
 
 import sys
+import tempfile
 import time
 import uuid
 from contextlib import ExitStack, contextmanager
@@ -114,14 +115,15 @@ def outputs_of(request: Request) -> Iterator[Outputs]:
     """What appears where the join succeeds: a report of one file or of many, and the list of
     skipped rows, which gets its name first.
     """
+    beside = tempfile.gettempdir() if is_url(request.folder) else request.folder
     if not request.has_files:
         written = [path for path in (request.report, request.skip) if path is not None]
-        with new_reports(*written, beside=request.folder) as (report, *skipped):
+        with new_reports(*written, beside=beside) as (report, *skipped):
             yield Outputs(report, None, skipped[0] if skipped else None)
         return
     with ExitStack() as stack:
-        folder = stack.enter_context(new_report_folder(request.report, request.folder))
-        skip = request.skip and stack.enter_context(new_report(request.skip, request.folder))
+        folder = stack.enter_context(new_report_folder(request.report, beside))
+        skip = request.skip and stack.enter_context(new_report(request.skip, beside))
         yield Outputs(None, folder, skip or None)
 
 

@@ -156,6 +156,8 @@ class LayerSteps(Steps):
             report.write(text)
             return PartDone(len(counts), len(text))
         header = HEADERS.get(command, WINDOW_HEADER)
+        if self.layout.is_remote:
+            return self.fetched(header, [each.part for each in answered], report)
         self.begin_report(header)
         chunks = Chunks(self.layout, len(header))
         sizes = [each.part.bytes for each in answered]

@@ -12,6 +12,7 @@ from rjoin_cluster.box_layers import Numerals
 from rjoin_cluster.choice import ALL, Choice
 from rjoin_cluster.digits import digits_in
 from rjoin_cluster.edits import Named
+from rjoin_cluster.ids import fast_width
 from rjoin_cluster.improper import Improper, all_improper
 from rjoin_cluster.inputs import Input
 from rjoin_cluster.program import RowFault
@@ -19,6 +20,9 @@ from rjoin_cluster.records import Places
 from rjoin_cluster.sides import Side
 from rjoin_cluster.skipping import Skipped, all_skipped
 from rjoin_cluster.tiles import Sample
+
+
+MOST_FILL = 2
 
 
 @dataclass(frozen=True)
@@ -67,8 +71,11 @@ class Layer:
 
     @property
     def id_width(self) -> int:
-        """How wide a table of all ids is."""
-        return max((block.id_width for block in self.blocks), default=1)
+        """How wide a table of all ids is. It is little wider than they are, if at all, where NumPy
+        copies its rows faster then.
+        """
+        width = max((block.id_width for block in self.blocks), default=1)
+        return fast_width(width, width + MOST_FILL)
 
     def sample(self, growth: int) -> Sample:
         """Some boxes, grown by so many units on each side."""

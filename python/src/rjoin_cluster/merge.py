@@ -158,5 +158,14 @@ def rows_text(fields: Sequence[IdTable]) -> bytes:
         at += table.shape[1] + 1
         text[:, at - 1] = ord(",")
     text[:, -1] = ord("\n")
-    kept: Bytes = text[text != FILL]
-    return kept.tobytes()
+    return without_fill(text)
+
+
+def without_fill(table: Bytes) -> bytes:
+    """The text of a table, without what fills it up. A few bytes are taken out by Python, which
+    copies what is between them at once.
+    """
+    is_kept = table != FILL
+    if table.size - np.count_nonzero(is_kept) > len(table):
+        return bytes(table[is_kept])
+    return table.tobytes().replace(bytes([FILL]), b"")

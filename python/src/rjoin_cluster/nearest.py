@@ -19,7 +19,7 @@ from rjoin_cluster.program import HEADER, Program, Text
 from rjoin_cluster.records import Places
 from rjoin_cluster.reports import rows_of
 from rjoin_cluster.sides import Side
-from rjoin_cluster.texts import ID_DIGITS, RecordPlaces, number_records, record_places
+from rjoin_cluster.texts import ID_WIDTH, RecordPlaces, number_records, record_places
 
 Pairs = NDArray[np.void]
 
@@ -72,7 +72,7 @@ class Search:
             return np.concatenate([self.nearest(pairs[:middle]), self.nearest(pairs[middle:])])
         words = [self.condition.command, *self.condition.words]
         report = self.program.report(words, layer(left), layer(right), self.program.reading)
-        found = rows_of(report, self.reach, ID_DIGITS, ID_DIGITS)
+        found = rows_of(report, self.reach, ID_WIDTH)
         ones, others, lasts = found.some(0, found.count)
         nearest: Pairs = pairs.take(rows.take(others))
         nearest["rank"] = ranks.take(ones)

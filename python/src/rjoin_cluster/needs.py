@@ -9,7 +9,7 @@ from functools import lru_cache
 from typing import Callable, TypeVar
 
 from rjoin_cluster.faults import JoinFault, Unfit
-from rjoin_cluster.layout import Layout, save_bytes
+from rjoin_cluster.layout import Layout, contents_of, remove_file, save_bytes
 from rjoin_cluster.program import Program
 from rjoin_cluster.sources import load_inputs
 
@@ -56,9 +56,8 @@ def lack_of(needs: Needs) -> str:
 
 
 def lack_of_files(needs: Needs) -> str:
-    with open(needs.layout.token(), "rb") as token:
-        if token.read() != TOKEN:
-            return f"{needs.layout.folder} is not the folder of the join"
+    if contents_of(needs.layout.token()) != TOKEN:
+        return f"{needs.layout.folder} is not the folder of the join"
     write_and_read(needs.layout)
     for file in load_inputs(needs.layout):
         if not file.is_at_start():
@@ -75,12 +74,11 @@ def lack_of_program(needs: Needs) -> str:
 
 def write_and_read(layout: Layout) -> None:
     """Leaves a file in the folder, as a task does, and reads it back."""
-    path = layout.file(f"check-{uuid.uuid4().hex}")
-    text = path.name.encode()
+    name = f"check-{uuid.uuid4().hex}"
+    path, text = layout.file(name), name.encode()
     save_bytes(path, [text])
-    with open(path, "rb") as file:
-        found = file.read()
-    path.unlink()
+    found = contents_of(path)
+    remove_file(path)
     if found != text:
         raise OSError(f"{path} has not what was written to it")
 

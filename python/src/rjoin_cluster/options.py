@@ -153,7 +153,7 @@ def add_cluster_options(options: argparse.ArgumentParser) -> None:
     folders.add_argument(
         "--folder",
         metavar="FOLDER",
-        help="folder that all workers share, for temporary files (default: that of REPORT)",
+        help="folder or URL that all workers share, for temporary files (default: that of REPORT)",
     )
     folders.add_argument(
         "--resume",

@@ -5,6 +5,7 @@ import json
 import os
 import shutil
 import stat
+import tempfile
 import time
 import uuid
 from contextlib import ExitStack, contextmanager, suppress
@@ -12,8 +13,8 @@ from functools import partial
 from pathlib import Path
 from typing import Any, BinaryIO, Iterator, Mapping, NamedTuple, Optional, Sequence, Union
 
-from rjoin_cluster.faults import JoinFault
-from rjoin_cluster.layout import Layout, unfinished
+from rjoin_cluster.faults import JoinFault, one_line
+from rjoin_cluster.layout import Layout, Name, contents_of, save_bytes, unfinished
 from rjoin_cluster.remote import is_there, is_url, put, remove
 
 NEW_FILE = 0o666  # its mode, of which the user's mask takes its part
@@ -85,13 +86,28 @@ class Report:
             self.part.unlink()
 
 
-def link_or_copy(path: Path, other: Path, mode: int) -> None:
+def link_or_copy(path: Name, other: Path, mode: int) -> None:
     """Gives a file another name, or copies it where that lies on another file system."""
-    try:
-        os.link(path, other)
-    except OSError:
-        shutil.copyfile(path, other)
+    if isinstance(path, str):
+        other.write_bytes(contents_of(path))
+    else:
+        try:
+            os.link(path, other)
+        except OSError:
+            shutil.copyfile(path, other)
     os.chmod(other, mode)
+
+
+@contextmanager
+def on_disk(path: Name) -> Iterator[str]:
+    """The path of a file, which is copied where it lies at a URL."""
+    if not isinstance(path, str):
+        yield str(path)
+        return
+    with tempfile.NamedTemporaryFile() as file:
+        file.write(contents_of(path))
+        file.flush()
+        yield file.name
 
 
 class RemoteReport(Report):
@@ -111,7 +127,7 @@ class RemoteReport(Report):
 class Piece(NamedTuple):
     """A file of a report of many files."""
 
-    path: Path
+    path: Name
     pairs: int
     bytes: int
 
@@ -178,7 +194,8 @@ class RemoteFolder:
         with told_of(self.url):
             for number, piece in enumerate(pieces):
                 name = f"part-{number:05}.csv"
-                put(str(piece.path), f"{self.url}/{name}")
+                with on_disk(piece.path) as path:
+                    put(path, f"{self.url}/{name}")
                 files.append({"name": name, "pairs": piece.pairs, "bytes": piece.bytes})
             self.part.write_text(manifest_of(files, columns), encoding="utf-8")
 
@@ -262,14 +279,35 @@ def told_of(path: str) -> Iterator[None]:
 
 @contextmanager
 def new_folder(shared: str) -> Iterator[Layout]:
-    """A folder of this join alone in the one that all workers share, for its user alone."""
-    folder = os.path.join(os.path.abspath(shared), f"rjoin-cluster-{uuid.uuid4().hex}")
+    """A folder of this join alone in the one that all workers share, for its user alone; at a URL
+    for those who may read there.
+    """
+    name = f"rjoin-cluster-{uuid.uuid4().hex}"
+    if is_url(shared):
+        layout = Layout(f"{shared.rstrip('/')}/{name}")
+        try:
+            check_takes(layout)
+            yield layout
+        finally:
+            remove(layout.folder)
+        return
+    folder = os.path.join(os.path.abspath(shared), name)
     try:
         with told_of(shared):
             os.mkdir(folder, 0o700)
         yield Layout(folder)
     finally:
         remove_folder(folder)
+
+
+def check_takes(layout: Layout) -> None:
+    """Ends the join where nothing can be written to a URL, whose module may raise anything."""
+    try:
+        save_bytes(layout.file("begun"), [])
+    except JoinFault:
+        raise
+    except Exception as cause:
+        raise JoinFault(f"{layout.folder}: cannot be written: {one_line(cause)}") from cause
 
 
 def remove_folder(folder: str) -> None:

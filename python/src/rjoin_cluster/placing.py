@@ -81,7 +81,7 @@ def place_chunk(job: PlaceJob) -> int:
     with open(job.layout.report(), "r+b", buffering=0, opener=private) as report:
         at = job.begin
         for share in job.shares:
-            with open(job.layout.report_part(share.part), "rb", buffering=0) as part:
+            with open(str(job.layout.report_part(share.part)), "rb", buffering=0) as part:
                 copy(part.fileno(), share.begin, report.fileno(), at, share.bytes)
             at += share.bytes
     return job.bytes

@@ -219,7 +219,39 @@ def second_fields(part: Bytes) -> Places:
     """Where the second field of each record begins and ends, in a text that begins between records
     and whose records have two fields each.
     """
+    begins, ends = records_in(part)
+    commas = first_commas(part, begins, ends)
+    if commas is not None:
+        return np.stack([commas + 1, ends], axis=1)
     ends = field_ends(part)
     commas = np.flatnonzero(part[ends] == COMMA)
     behind = np.append(ends, part.size)[commas + 1]
     return np.stack([ends[commas] + 1, behind], axis=1)
+
+
+def records_in(part: Bytes) -> tuple[Places, Places]:
+    """Where the records of a text begin, and where they end, before their line ends."""
+    runs = quote_runs(part)
+    feeds = np.flatnonzero(part <= RETURN)  # and a few other bytes
+    feeds = feeds[(part[feeds] == FEED) | (part[feeds] == RETURN)]
+    ends = outside(feeds, runs, quoted_behind(runs, State.FREE), State.FREE)
+    if (int(ends[-1]) + 1 if ends.size else 0) < part.size:
+        ends = np.append(ends, part.size)
+    heads = np.flatnonzero(np.diff(ends, prepend=-1) != 1)
+    begins = np.append(-1, ends).take(heads) + 1
+    return begins, ends.take(heads)
+
+
+def first_commas(part: Bytes, begins: Places, ends: Places) -> Optional[Places]:
+    """Where the first field of each record ends; None where one is quoted, or the only one. In a
+    field without quotes around it no comma stands, and most are short.
+    """
+    if (part[begins] == QUOTE).any():
+        return None
+    commas, rows = begins.copy(), np.arange(begins.size)
+    while rows.size:
+        rows = rows[part[commas[rows]] != COMMA]
+        commas[rows] += 1
+        if (commas[rows] >= ends[rows]).any():
+            return None
+    return commas

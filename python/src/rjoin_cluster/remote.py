@@ -4,7 +4,7 @@ from __future__ import annotations
 import re
 import shutil
 from contextlib import contextmanager, suppress
-from typing import Any, BinaryIO, Iterator
+from typing import Any, BinaryIO, Iterator, Optional
 
 from rjoin_cluster.faults import JoinFault
 
@@ -47,6 +47,18 @@ def opened_url(url: str) -> Iterator[BinaryIO]:
     system, name = system_of(url)
     with system.open(name, "rb") as file:
         yield file
+
+
+def bytes_of(url: str, begin: Optional[int] = None, end: Optional[int] = None) -> bytes:
+    """The bytes of a file, or those between two places of it."""
+    system, name = system_of(url)
+    return bytes(system.cat_file(name, start=begin, end=end))
+
+
+def send(path: str, url: str) -> None:
+    """Copies a file to a URL, where the system lets it appear as a whole."""
+    system, name = system_of(url)
+    system.put_file(path, name)
 
 
 def names_like(pattern: str) -> list[str]:

@@ -1,8 +1,7 @@
 """The third step of a join: each tile is joined by a run of rjoin.
 
-The ids of a run count its features, in digits of one width, so that a report's ids are numbers
-which are read without looking at single rows. Boxes that are joined are written from their corners;
-all other features travel as the layer's file has them.
+The ids of a run are numbers of one width, which are read without looking at single rows. Boxes that
+are joined are written from their corners; all other features travel as the layer's file has them.
 
 Of the pairs of a tile those are kept whose reference point lies in it: the low corner of what the
 two boxes share (Dittrich and Seeger 2000), which are grown by half of the distance where pairs are
@@ -21,23 +20,23 @@ import numpy as np
 from numpy.typing import NDArray
 
 from rjoin_cluster.answers import Boxes
-from rjoin_cluster.box_layers import Numerals, layer_text, moved
+from rjoin_cluster.box_layers import Numerals, Spelling, layer_text, spelling_of
 from rjoin_cluster.choice import ALL, Choice
 from rjoin_cluster.conditions import Condition, Reach
-from rjoin_cluster.digits import digits_in
 from rjoin_cluster.layout import Layout, mapped, new_file
 from rjoin_cluster.pieces import Cargo, Piece, Range, load_piece
 from rjoin_cluster.program import HEADER, Program, Text
 from rjoin_cluster.reading import UNITS
 from rjoin_cluster.records import Places
 from rjoin_cluster.reports import ReportRows, rows_of
+from rjoin_cluster.run_ids import ID_BYTES
 from rjoin_cluster.sides import Side
-from rjoin_cluster.texts import ID_DIGITS, number_records
+from rjoin_cluster.texts import ID_WIDTH, number_records
 from rjoin_cluster.tiles import Region
 from rjoin_cluster.whole import load_some, load_whole
 
 KEY_STEP = 256
-ROWS_AT_ONCE = 2**13  # which stay in the processor's cache
+ROWS_AT_ONCE = 2**14  # which stay in the processor's cache
 
 log = logging.getLogger(__name__)
 
@@ -88,10 +87,10 @@ class RunDone:
 
 
 class RunLayer(NamedTuple):
-    """A layer as a run reads it, and the digits of its ids."""
+    """A layer as a run reads it, and the width of its ids."""
 
     text: list[Text]
-    id_digits: int
+    id_width: int
 
 
 def pair_type(width: int, id_width: int, is_nearest: bool) -> np.dtype[Any]:
@@ -138,22 +137,21 @@ def report_of(job: RunJob, left: Piece, right: Piece) -> ReportRows:
     if job.numerals is None:
         ones, others = (layer_of_records(piece) for piece in (left, right))
     else:
-        boxes, numerals = moved([left.boxes, right.boxes], job.numerals)
-        ones, others = (layer_of_boxes(some, numerals) for some in boxes)
+        spelling = spelling_of([left.boxes, right.boxes], job.numerals)
+        ones, others = (layer_of_boxes(piece.boxes, spelling) for piece in (left, right))
     reading = job.program.reading if job.numerals is None else UNITS
     words = [job.condition.command, *job.condition.words]
     report = job.program.report(words, ones.text, others.text, reading)
-    return rows_of(report, job.reach, ones.id_digits, others.id_digits)
+    return rows_of(report, job.reach, ones.id_width)
 
 
-def layer_of_boxes(boxes: Boxes, numerals: Numerals) -> RunLayer:
-    text = layer_text(boxes, numerals)
-    return RunLayer([HEADER, text.data], digits_in(len(boxes)))
+def layer_of_boxes(boxes: Boxes, spelling: Spelling) -> RunLayer:
+    return RunLayer([HEADER, layer_text(boxes, spelling).data], ID_BYTES)
 
 
 def layer_of_records(piece: Piece) -> RunLayer:
     number_records(piece.records, piece.lengths)
-    return RunLayer([HEADER, piece.records.data], ID_DIGITS)
+    return RunLayer([HEADER, piece.records.data], ID_WIDTH)
 
 
 def own_pairs(

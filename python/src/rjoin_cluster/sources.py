@@ -8,7 +8,7 @@ import json
 from typing import Any, Sequence
 
 from rjoin_cluster.inputs import Files, Input
-from rjoin_cluster.layout import Layout, save_bytes
+from rjoin_cluster.layout import Layout, contents_of, save_bytes
 from rjoin_cluster.sides import Side
 
 SUM_BYTES = 16
@@ -22,7 +22,7 @@ def save_inputs(layout: Layout, files: Sequence[Input]) -> str:
 
 
 def load_inputs(layout: Layout) -> list[Input]:
-    return list(map(read, json.loads(layout.inputs().read_bytes())))
+    return list(map(read, json.loads(contents_of(layout.inputs()))))
 
 
 def save_files(layout: Layout, side: Side, files: Sequence[Input]) -> None:
@@ -35,7 +35,7 @@ def save_files(layout: Layout, side: Side, files: Sequence[Input]) -> None:
 
 def load_files(layout: Layout, side: Side) -> Files:
     """The file of each block of a layer."""
-    known = json.loads(layout.files(side).read_bytes())
+    known = json.loads(contents_of(layout.files(side)))
     files = list(map(read, known["files"]))
     return tuple(files[place] for place in known["blocks"])
 

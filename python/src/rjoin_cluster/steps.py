@@ -26,7 +26,7 @@ from rjoin_cluster.faults import JoinFault
 from rjoin_cluster.inputs import Files, Input, found
 from rjoin_cluster.joining import Joining, check_doubles, doubles_jobs
 from rjoin_cluster.layers import Layer, Layers
-from rjoin_cluster.layout import private, save_array, save_bytes
+from rjoin_cluster.layout import contents_of, private, remove_file, save_array, save_bytes
 from rjoin_cluster.merge import PartDone, PartJob, plan_parts, write_part
 from rjoin_cluster.nearest import Search
 from rjoin_cluster.outputs import Outputs, Piece, Report
@@ -282,15 +282,27 @@ class Steps:
         same = (self.layout, self.reach, self.search(right))
         before = header if outputs.files is not None else b""
         jobs = [PartJob(*same, part, right.rows, right.id_width, before) for part in range(count)]
-        if outputs.report is not None:
+        if outputs.report is not None and not self.layout.is_remote:
             return self.merge_in_place(jobs, outputs.report)
         done = self.engine.all("merging", write_part, jobs)
+        if outputs.report is not None:
+            return self.fetched(header, done, outputs.report)
         with self.engine.phase("writing"):
             if outputs.files is not None:
                 paths = [self.layout.report_part(job.number) for job in jobs]
                 pieces = [Piece(path, *part) for path, part in zip(paths, done)]
                 outputs.files.take(pieces, header.decode().rstrip("\n").split(","))
         return in_all(done)
+
+    def fetched(self, header: bytes, parts: Sequence[PartDone], report: Report) -> PartDone:
+        """Writes a report whose parts lie at URLs, where no file is written by several tasks."""
+        with self.engine.phase("writing"):
+            report.write(header)
+            for number in range(len(parts)):
+                report.write(contents_of(self.layout.report_part(number)))
+                remove_file(self.layout.report_part(number))
+        whole = in_all(parts)
+        return whole._replace(bytes=whole.bytes + len(header))
 
     def merge_in_place(self, jobs: Sequence[PartJob], report: Report) -> PartDone:
         """Makes the parts of a report, and has them copied to their places as soon as these are
@@ -343,7 +355,7 @@ class Steps:
         for share in shares:
             needed[share.part] -= 1
             if needed[share.part] == 0 and share.part not in waiting:
-                self.layout.report_part(share.part).unlink(missing_ok=True)
+                remove_file(self.layout.report_part(share.part))
 
     def search(self, right: Layer) -> Optional[Search]:
         request = self.request

@@ -17,6 +17,7 @@ from rjoin_cluster.faults import JoinFault, ProgramFault
 from rjoin_cluster.layout import UNFINISHED, Layout, private, save_bytes
 from rjoin_cluster.outputs import new_folder, remove_folder, told_of
 from rjoin_cluster.record import Record
+from rjoin_cluster.remote import is_url
 
 FOR_ALL = 0o077  # of a mode, what others may do
 PLANNED = "planned for"
@@ -81,6 +82,8 @@ def kept_store(path: str) -> Iterator[Store]:
     """The folder of this name, which vanishes where the join succeeds or its layers are at fault,
     and else stays.
     """
+    if is_url(path):
+        raise JoinFault(f"{path}: a join goes on in a folder of a file system alone")
     folder = os.path.abspath(path)
     with told_of(path):
         os.makedirs(folder, 0o700, exist_ok=True)
@@ -88,7 +91,7 @@ def kept_store(path: str) -> Iterator[Store]:
     layout = Layout(folder)
     try:
         with locked(layout, path):
-            shutil.rmtree(layout.file("workers"), ignore_errors=True)
+            shutil.rmtree(layout.path("workers"), ignore_errors=True)
             store = Store(layout, True, Record())
             try:
                 yield store

@@ -1,6 +1,6 @@
 """Records of features that travel with their geometry as the layer's file has it.
 
-A record begins with eight bytes for an id of the run, seven digits and a comma, which are written
+A record begins with eight bytes for an id of the run, seven letters and a comma, which are written
 when the run is known. In the layer's file some eight bytes stand before each geometry: those of the
 header, of an id and of commas. So a record is a part of the file, with the line end behind it.
 """
@@ -14,15 +14,18 @@ from typing import BinaryIO, Iterator, Sequence
 import numpy as np
 from numpy.typing import NDArray
 
-from rjoin_cluster.digits import put, written
+from rjoin_cluster.digits import put
 from rjoin_cluster.inputs import Input
 from rjoin_cluster.layout import Layout, RowsFile, load_rows, mapped, new_file
 from rjoin_cluster.records import COMMA, Bytes, Places
+from rjoin_cluster.run_ids import ID_BYTES, letters_of
 from rjoin_cluster.sides import Side
 from rjoin_cluster.sources import load_files
 from rjoin_cluster.words import WORD, put_words
 
-ID_DIGITS = WORD - 1
+ID_WIDTH = WORD - 1
+ZERO = ord("0")
+MOST_SHORT = np.iinfo(np.uint16).max
 LINE_END = 1
 FEW_OF = 256  # rows of a block, of which one is read by itself
 BYTES_AT_ONCE = 2**22  # of records, which are put into another order together
@@ -75,11 +78,19 @@ def gathered(text: Bytes, begins: Places, lengths: Places) -> Bytes:
     """
     places = np.cumsum(lengths) - lengths
     found = np.empty(int(lengths.sum()), dtype=np.uint8)
-    order = np.argsort(lengths, kind="stable")
-    sizes, firsts = np.unique(lengths.take(order), return_index=True)
-    for size, rows in zip(sizes.tolist(), np.split(order, firsts[1:])):
+    order = by_length(lengths)
+    sizes = lengths.take(order)
+    borders = np.flatnonzero(np.diff(sizes, prepend=-1))
+    for size, rows in zip(sizes.take(borders).tolist(), np.split(order, borders[1:])):
         elements_in(found, size)[places.take(rows)] = elements_in(text, size)[begins.take(rows)]
     return found
+
+
+def by_length(lengths: Places) -> Places:
+    """The order of lengths. NumPy sorts 16 bits by their digits."""
+    if lengths.max(initial=0) <= MOST_SHORT:
+        return np.argsort(lengths.astype(np.uint16), kind="stable")
+    return np.argsort(lengths, kind="stable")
 
 
 def elements_in(text: Bytes, size: int) -> NDArray[np.void]:
@@ -170,8 +181,8 @@ def load_texts(layout: Layout, side: Side, group: int, text: Bytes, begin: int) 
 
 
 def number_records(text: Bytes, lengths: Places) -> None:
-    """Gives records that stand one behind the other the ids 0, 1 and so on."""
-    names = np.empty((lengths.size, WORD), dtype=np.uint8)
-    put(names, 0, written(np.arange(lengths.size), ID_DIGITS))
-    names[:, ID_DIGITS] = COMMA
+    """Gives records that stand one behind the other the ids of a run."""
+    names = np.full((lengths.size, WORD), ZERO, dtype=np.uint8)
+    put(names, ID_WIDTH - ID_BYTES, letters_of(lengths.size).view(f"V{ID_BYTES}"))
+    names[:, ID_WIDTH] = COMMA
     put_words(text, np.cumsum(lengths) - lengths, names.view("<u8").reshape(-1))
