@@ -68,7 +68,7 @@ INSTALLED = {
                       "share/man/man1/rjoin-cluster.1.gz"),
     "rjoin-integrations": ("bin/rjoin-postgis", "share/qgis/python/plugins/rjoin_processing/metadata.txt",
                            "lib/klayout/salt/rjoin/pymacros/join_layers.lym", "lib/klayout/salt/rjoin/grain.xml",
-                           "share/man/man1/rjoin-postgis.1.gz"),
+                           "lib/klayout/salt/rjoin/ruby/rjoin.rb", "share/man/man1/rjoin-postgis.1.gz"),
 }
 FORMAT_OPTIONS = {"--geometry", "--rings", "--scale", "--round", "--help"}
 FILE_OPTIONS = {"--columns", "--delimiter", *FORMAT_OPTIONS}

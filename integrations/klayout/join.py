@@ -8,30 +8,31 @@ and are closer than that. The shapes of each layer are merged first; `-rd merged
 they are drawn. `-rd mode=cell` joins the shapes of each cell by themselves, in place of all below
 the top cell. `-rd others=envelope` takes the bounding boxes of shapes that rjoin doesn't read,
 `others=skip` lists them in a category of their own; without it the first one ends the run. Texts
-are listed in any case. `-rd cell=NAME` takes another cell than the top cell. `-rd matrices=0` puts
-all pairs of a relation into one category, in place of one for each matrix. It prints the number of
-items of each category, and of pairs that rest on a bounding box.
+are listed in any case. `-rd cell=NAME` takes another cell than the top cells, each of which is
+joined by itself. `-rd matrices=0` puts all pairs of a relation into one category, in place of one
+for each matrix. `-rd layer=100/0 -rd layout=marked.gds` also puts the result as shapes into a layer
+of the layout, and writes that. It prints the number of items of each category, and of pairs that
+rest on a bounding box.
 """
 from __future__ import annotations
 
 import os
 import sys
 from pathlib import Path
-from typing import Dict, Sequence
+from typing import Callable, Dict, List, Sequence
 
 import pya
 
 sys.path.insert(0, str(Path(__file__).resolve().parent / "python"))
 
 from rjoin_klayout.found import VERSION  # noqa: E402
-from rjoin_klayout.join import Request, join_layers  # noqa: E402
+from rjoin_klayout.join import Request, join_cells  # noqa: E402
 from rjoin_klayout.layers import ENVELOPE, ERROR, FLAT, JoinError, Reading  # noqa: E402
 from rjoin_klayout.program import ProgramError, staleness  # noqa: E402
-from rjoin_klayout.report import Report  # noqa: E402
 
 SWITCH = {"0": False, "1": True}
 WORDS = ("file", "left", "right", "relation", "space", "output", "merged", "mode", "others", "cell",
-         "matrices", "version")
+         "matrices", "layer", "layout", "version")
 
 
 def check_words(arguments: Sequence[str]) -> None:
@@ -68,35 +69,49 @@ def read(path: str) -> pya.Layout:
     return layout
 
 
-def cell_of(layout: pya.Layout, name: str) -> pya.Cell:
-    """The named cell, or the only top cell."""
+def cells_of(layout: pya.Layout, name: str) -> List[pya.Cell]:
+    """The named cell, or all top cells."""
     if name:
         cell = layout.cell(name)
         if cell is None:
             raise JoinError(f"the layout has no cell {name}")
-        return cell
-    tops = layout.top_cells()
-    if len(tops) != 1:
-        raise JoinError(f"the layout has {len(tops)} top cells; choose one by -rd cell=NAME")
-    return tops[0]
+        return [cell]
+    tops = sorted(layout.top_cells(), key=lambda cell: str(cell.name))
+    if not tops:
+        raise JoinError("the layout has no cell")
+    return tops
 
 
-def save(report: Report, path: str) -> None:
-    """Writes the database; a file that is there is replaced only by a whole one."""
+def save(path: str, write: Callable[[str], None]) -> None:
+    """Writes a file; one that is there is replaced only by a whole one."""
     part = f"{path}.part"
     try:
-        report.write(Path(part))
+        write(part)
         os.replace(part, path)
-    except OSError as fault:
+    except (OSError, RuntimeError) as fault:
         raise JoinError(f"{path} can't be written: {fault}") from fault
+
+
+def save_layout(layout: pya.Layout, path: str) -> None:
+    """Writes the layout in the format that the name of the file tells."""
+    options = pya.SaveLayoutOptions()
+    options.set_format_from_filename(path)
+
+    def write(part: str) -> None:
+        layout.write(part, options)
+
+    save(path, write)
 
 
 def request_of(given: Dict[str, object]) -> Request:
     """The request of the variables of the command line."""
     reading = Reading(word(given, "others", ERROR), switch(given, "merged"),
                       word(given, "mode", FLAT))
+    layer = word(given, "layer", "")
+    if bool(layer) != ("layout" in given):
+        raise JoinError("layer and layout are given together, or neither")
     return Request(word(given, "left"), word(given, "right"), word(given, "relation", ""),
-                   word(given, "space", ""), reading, switch(given, "matrices"))
+                   word(given, "space", ""), reading, switch(given, "matrices"), layer)
 
 
 def join(given: Dict[str, object]) -> None:
@@ -111,8 +126,10 @@ def join(given: Dict[str, object]) -> None:
         print(f"join.py: warning: {stale}", file=sys.stderr)
     output = word(given, "output")
     layout = read(word(given, "file"))
-    report = join_layers(layout, cell_of(layout, word(given, "cell", "")), request)
-    save(report, output)
+    report = join_cells(layout, cells_of(layout, word(given, "cell", "")), request)
+    if request.layer:
+        save_layout(layout, word(given, "layout"))
+    save(output, lambda part: report.write(Path(part)))
     for path, count in report.counts():
         print(f"{path}: {count}")
     if request.reading.others == ENVELOPE:

@@ -5,7 +5,9 @@ Each line of standard input is a JSON list of runs, each with `algorithm`, `para
 the filtering of invalid features, and `selected`, by the names of parameters the expressions of the
 features that are selected, which take part alone. Standard output gets a line for it, a list of the
 same length: `results`, the text of an `error`, `progress`, `log`, and in `rows` the attributes and
-the well-known text of each feature of every output layer, and in `systems` its reference system.
+the well-known text of each feature of every output layer, in `systems` its reference system, and in
+`types` those of its fields. A run of `parameters_of` alone tells the parameters of an algorithm, in
+`parameters` the inputs and in `added` those that only rjoin's has.
 """
 from __future__ import annotations
 
@@ -79,10 +81,29 @@ def selected(path: str, expression: str) -> QgsProcessingFeatureSourceDefinition
     return QgsProcessingFeatureSourceDefinition(layer.id(), True)
 
 
+RJOINS = {"OTHERS", "DECIMALS", "INCOMPLETE", "WORKERS", "INPUT_LEFT_OUT", "JOIN_LEFT_OUT"}
+
+
+def parameters_of(algorithm: str) -> Dict[str, Any]:
+    """The parameters of an algorithm, in their order."""
+    found: Dict[str, Any] = {"parameters": [], "added": []}
+    definitions = QgsApplication.processingRegistry().algorithmById(algorithm)
+    for parameter in definitions.parameterDefinitions():
+        told = {"name": parameter.name(), "words": parameter.description(),
+                "kind": parameter.type(), "default": str(parameter.defaultValue()).strip("[]"),
+                "flags": int(parameter.flags()), "metadata": parameter.metadata(),
+                "advanced": bool(parameter.flags() & parameter.FlagAdvanced),
+                "choices": parameter.options() if parameter.type() == "enum" else []}
+        found["added" if parameter.name() in RJOINS else "parameters"].append(told)
+    return found
+
+
 def run(request: Dict[str, Any]) -> Dict[str, Any]:
     """One run."""
     import processing
 
+    if "parameters_of" in request:
+        return parameters_of(request["parameters_of"])
     context, feedback = QgsProcessingContext(), Recorder(request.get("cancel_at"))
     context.setProject(QgsProject.instance())
     context.setInvalidGeometryCheck(QgsFeatureRequest.InvalidGeometryCheck(
@@ -100,6 +121,8 @@ def run(request: Dict[str, Any]) -> Dict[str, Any]:
         answer["rows"] = {name: layer and rows_of(layer) for name, layer in layers.items()}
         answer["systems"] = {name: layer and layer.crs().authid()
                              for name, layer in layers.items()}
+        answer["types"] = {name: layer and [field.typeName() for field in layer.fields()]
+                           for name, layer in layers.items()}
         answer["results"] = {name: value for name, value in results.items()
                              if isinstance(value, (int, float, str))}
     except QgsProcessingException as fault:
@@ -123,7 +146,8 @@ def main() -> None:
     provider = RjoinProvider()
     QgsApplication.processingRegistry().addProvider(provider)
     for line in sys.stdin:
-        print(json.dumps([run(request) for request in json.loads(line)]), file=answers, flush=True)
+        found = [run(request) for request in json.loads(line)]
+        print(json.dumps(found, default=str), file=answers, flush=True)
 
 
 main()

@@ -2,6 +2,7 @@
 from __future__ import annotations
 
 import json
+import math
 import os
 import re
 import shutil
@@ -10,7 +11,7 @@ import xml.etree.ElementTree as ElementTree
 from collections import Counter
 from decimal import Decimal
 from pathlib import Path
-from typing import Any, Callable, Dict, List, Tuple
+from typing import Any, Callable, Dict, Iterable, List, NamedTuple, Sequence, Tuple
 
 import pytest
 
@@ -170,6 +171,88 @@ def corners(text: str) -> Bounds:
 
 
 SHAPES = ("box:", "edge:", "polygon:", "path:")
+MARKER, DISTANCE = "edge-pair: ", "text: 'distance: "
+Point = Tuple[float, float]
+Side = Tuple[Point, Point]
+# The digits of a unit, in micrometres, that rounding may change.
+CLOSE = 1e-6
+
+
+class Narrow(NamedTuple):
+    """An item of a spacing: its edges, and the distance that it tells."""
+
+    left: Side
+    right: Side
+    distance: float
+
+
+def side_of(text: str) -> Side:
+    """An edge, by its text."""
+    x1, y1, x2, y2 = numbers_of(text)
+    return (x1, y1), (x2, y2)
+
+
+def narrow_places(answer: Dict[str, Any]) -> List[Narrow]:
+    """The items of a spacing."""
+    assert answer["error"] is None, answer["error"]
+    found = []
+    for values in values_of(answer):
+        marker = [text[len(MARKER):] for text in values if text.startswith(MARKER)]
+        distance = [text[len(DISTANCE):].split()[0] for text in values if text.startswith(DISTANCE)]
+        if marker:
+            left, right = (side_of(f"{edge})") for edge in marker[0].strip("()").split(")/("))
+            found.append(Narrow(left, right, float(distance[0])))
+    return found
+
+
+def sides_of(text: str) -> List[Side]:
+    """The sides of a box or polygon, by its text."""
+    rings = [[(numbers[place], numbers[place + 1]) for place in range(0, len(numbers), 2)]
+             for numbers in map(numbers_of, text.split("/"))]
+    if len(rings) == 1 and len(rings[0]) == 2:
+        (x1, y1), (x2, y2) = rings[0]
+        rings = [[(x1, y1), (x2, y1), (x2, y2), (x1, y2)]]
+    return [side for ring in rings for side in zip(ring, ring[1:] + ring[:1])]
+
+
+def apart(point: Point, side: Side) -> float:
+    """The distance of a point and a segment."""
+    (x, y), ((x1, y1), (x2, y2)) = point, side
+    length = (x2 - x1) ** 2 + (y2 - y1) ** 2
+    share = ((x - x1) * (x2 - x1) + (y - y1) * (y2 - y1)) / length if length else 0.0
+    share = min(1.0, max(0.0, share))
+    return math.hypot(x1 + share * (x2 - x1) - x, y1 + share * (y2 - y1) - y)
+
+
+def gap(one: Iterable[Side], other: Iterable[Side]) -> float:
+    """The distance of two outlines that don't cross."""
+    others = list(other)
+    return min(min(*(apart(end, there) for end in side), *(apart(end, side) for end in there))
+               for side in one for there in others)
+
+
+def is_between(item: Narrow, pair: Sequence[str]) -> bool:
+    """Whether an item is at the narrow place of two shapes: its edges lie on their outlines, and
+    are as far from each other, along their whole length, as the shapes are and the item tells."""
+    for edge, text in zip((item.left, item.right), pair):
+        if any(min(apart(end, side) for side in sides_of(text)) > CLOSE for end in edge):
+            return False
+    least = gap(sides_of(pair[0]), sides_of(pair[1]))
+    return all(abs(found - least) < CLOSE for found in (
+        item.distance, *(math.dist(*ends) for ends in zip(item.left, reversed(item.right)))))
+
+
+def unmatched(answer: Dict[str, Any]) -> Tuple[List[Narrow], List[Sequence[str]]]:
+    """The items that are at the narrow place of no pair that KLayout finds too close, and the pairs
+    that have no item."""
+    asked, alone = list(answer["asked"]), []
+    for item in narrow_places(answer):
+        pair = next((pair for pair in asked if is_between(item, pair)), None)
+        if pair is None:
+            alone.append(item)
+        else:
+            asked.remove(pair)
+    return alone, asked
 
 
 def items(path: Path, key: Callable[[str], Bounds] = bounds) -> Dict[str, List[Tuple[Bounds, ...]]]:
@@ -267,9 +350,9 @@ def test_bounding_boxes_beside_merged_shapes(joined: Dict[str, Any]) -> None:
 
 def test_the_cell_of_each_shape(joined: Dict[str, Any]) -> None:
     """Of two placements; and in each cell by itself where that lies in the top cell."""
-    between = [values[2:4] for values in values_of(joined["spaced 3/0 <0.04 3/0 error"])
-               if values[0] == "box: (0.05,0;0.07,0.02)" or values[1] == "box: (0.05,0;0.07,0.02)"]
-    assert ["text: 'left: CELL r0 *1 0,0'", "text: 'right: CELL r0 *1 100,0'"] in between
+    between = [values[1:3] for values in values_of(joined["spaced 3/0 <0.04 3/0 error"])
+               if values[0] == "edge-pair: (0.07,0;0.07,0.02)/(0.1,0.02;0.1,0)"]
+    assert between == [["text: 'left: CELL r0 *1 0,0'", "text: 'right: CELL r0 *1 100,0'"]]
     root = ElementTree.parse(joined["nested 1/0 <0.04 1/0 error cell"]["database"]).getroot()
     assert root.findtext("cells/cell[name='CELL']/references/ref/trans") == "r90 *1 0.08,0.01"
 
@@ -306,15 +389,15 @@ def test_shapes_of_little_area(joined: Dict[str, Any]) -> None:
 @pytest.mark.parametrize("request_", SPACES, ids=key_of)
 def test_spacing(joined: Dict[str, Any], request_: Dict[str, Any]) -> None:
     """Beside KLayout's separation check of each pair of shapes: less than the space, and across
-    corners too. Of a layer with itself each pair comes once."""
+    corners too, with an edge pair at the narrow place. Of a layer with itself each pair comes
+    once."""
     answer = joined[key_of(request_)]
-    asked = Counter((bounds(one), bounds(other)) for one, other in answer["asked"])
-    own = pairs_of(answer)
     if request_.get("mode") == "cell":
-        assert own == Counter([((0.0, 0.0, 0.02, 0.02), (0.05, 0.0, 0.07, 0.02))])
-        assert items(Path(answer["database"])) and asked.total() == 3
+        (item,) = narrow_places(answer)
+        assert item == Narrow(((0.02, 0.0), (0.02, 0.02)), ((0.05, 0.02), (0.05, 0.0)), 0.03)
+        assert len(answer["asked"]) == 3
     else:
-        assert own == asked and asked
+        assert unmatched(answer) == ([], []) and answer["asked"]
 
 
 def test_spacing_is_told(joined: Dict[str, Any]) -> None:
@@ -338,14 +421,15 @@ def test_spacing_is_told(joined: Dict[str, Any]) -> None:
 @pytest.mark.parametrize("unit", UNITS)
 def test_spacing_at_the_rule(joined: Dict[str, Any], unit: str, form: str) -> None:
     """Shapes 50 units apart aren't closer than that, in whatever unit and file."""
-    def scaled(*numbers: int) -> Bounds:
-        return tuple(float(number * Decimal(unit)) for number in numbers)
+    def scaled(*numbers: int) -> Side:
+        x1, y1, x2, y2 = (float(number * Decimal(unit)) for number in numbers)
+        return (x1, y1), (x2, y2)
 
     space = f"{50 * Decimal(unit):f}"
-    for right, pair in (("1/0", (scaled(70, 0, 90, 20), scaled(139, 0, 159, 20))),
-                        ("2/0", (scaled(0, 0, 20, 20), scaled(0, 69, 20, 89)))):
+    for right, edges in (("1/0", (scaled(90, 0, 90, 20), scaled(139, 20, 139, 0))),
+                         ("2/0", (scaled(0, 20, 20, 20), scaled(20, 69, 0, 69)))):
         answer = joined[f"{unit}.{form} 1/0 <{space} {right} error"]
-        assert pairs_of(answer) == Counter([pair])
+        assert [item[:2] for item in narrow_places(answer)] == [edges]
         text = Path(answer["database"]).read_text(encoding="utf-8")
         assert f"distance: {(49 * Decimal(unit)).normalize():f} um" in text
 
@@ -394,12 +478,13 @@ def test_spacing_of_other_shapes(joined: Dict[str, Any]) -> None:
     """Beside KLayout's separation check, as for boxes. KLayout 0.28 takes some shapes that share
     nothing but a point for apart."""
     answer = joined["angled 1/0 <0.3 2/0 error"]
-    asked: Counter[Tuple[Bounds, ...]] = Counter(
-        (corners(one), corners(other)) for one, other in answer["asked"])
-    own = pairs_of(answer, corners)
+    alone, asked = unmatched(answer)
     points = items(Path(joined["angled 1/0 touches 2/0 error"]["database"]), corners).get(
         f"'1/0 touches 2/0'.{POINTS_ALONE}", [])
-    assert own and not own - asked and not asked - own - Counter(points)
+    assert narrow_places(answer) and not alone
+    missed: Counter[Tuple[Bounds, ...]] = Counter(
+        (corners(one), corners(other)) for one, other in asked)
+    assert not missed - Counter(points)
 
 
 def test_categories_say_what_they_mean(joined: Dict[str, Any]) -> None:
@@ -471,8 +556,8 @@ def test_batch_mode_without_matrices(program: Path, klayout: Any, town: Path, tm
     assert wrong.returncode == 1 and "matrices must be 0 or 1" in wrong.stderr
 
 
-def test_batch_mode_in_another_cell(klayout: Any, tmp_path: Path) -> None:
-    """Of two top cells, which have one box each."""
+def test_batch_mode_in_other_cells(klayout: Any, tmp_path: Path) -> None:
+    """Of two top cells, which have one box each, all or one by its name."""
     script, layout, output = (tmp_path / name for name in ("cells.py", "cells.oas", "pairs.lyrdb"))
     script.write_text("import pya\nlayout = pya.Layout()\n"
                       "for name, size in (('ONE', 10), ('OTHER', 20)):\n"
@@ -482,13 +567,126 @@ def test_batch_mode_in_another_cell(klayout: Any, tmp_path: Path) -> None:
     assert klayout(script, output=str(layout)).returncode == 0
     words = {"file": str(layout), "left": "1/0", "right": "1/0", "relation": "equals",
              "output": str(output)}
-    neither = klayout(PACKAGE / "join.py", **words)
-    assert neither.returncode == 1
-    assert "the layout has 2 top cells; choose one by -rd cell=NAME" in neither.stderr
+    every = klayout(PACKAGE / "join.py", **words)
+    assert every.returncode == 0, every.stderr
+    assert list(items(output).values()) == [[((0.0, 0.0, size, size),) * 2
+                                             for size in (0.01, 0.02)]]
+    cells = [item.findtext("cell") for item in ElementTree.parse(output).getroot().iter("item")]
+    assert cells == ["ONE", "OTHER"]
     for name, size in (("ONE", 0.01), ("OTHER", 0.02)):
         ended = klayout(PACKAGE / "join.py", **words, cell=name)
         assert ended.returncode == 0, ended.stderr
         assert list(items(output).values()) == [[((0.0, 0.0, size, size),) * 2]]
+
+
+# Two boxes 50 units apart and a small one in the first; and how a layer of the result is read.
+MADE = """
+import pya
+layout = pya.Layout()
+top = layout.create_cell("TOP")
+for number, boxes in ((1, ((0, 0, 100, 100), (150, 20, 200, 60))), (2, ((10, 10, 20, 20),))):
+    for box in boxes:
+        top.shapes(layout.layer(number, 0)).insert(pya.Box(*box))
+layout.write(output)
+"""
+SHOWN = """
+import pya
+layout = pya.Layout()
+layout.read(file)
+top = layout.top_cell()
+for name in (1, 100):
+    region = pya.Region(top.begin_shapes_rec(layout.layer(name, 0)))
+    print(*sorted(str(shape) for shape in region.each()))
+"""
+FIRST, SECOND = "(0,0;0,100;100,100;100,0)", "(150,20;150,60;200,60;200,20)"
+GAP = "(100,20;100,60;150,60;150,20)"
+
+
+def written(folder: Path, name: str, text: str) -> Path:
+    (folder / name).write_text(text, encoding="utf-8")
+    return folder / name
+
+
+@pytest.fixture
+def boxes(klayout: Any, tmp_path: Path) -> Path:
+    """A layout of few boxes."""
+    ended = klayout(written(tmp_path, "made.py", MADE), output=str(tmp_path / "boxes.gds"))
+    assert ended.returncode == 0, ended.stderr
+    return tmp_path / "boxes.gds"
+
+
+@pytest.mark.parametrize("condition, shape", [({"space": "0.06"}, GAP),
+                                              ({"relation": "contains"}, FIRST)])
+def test_results_as_shapes(klayout: Any, boxes: Path, tmp_path: Path, condition: Dict[str, str],
+                           shape: str) -> None:
+    """In a layer of the layout, beside those that were there: what is between the edges of a
+    spacing, or the left shapes of a relation."""
+    words = {"file": str(boxes), "left": "1/0", "right": "2/0" if "relation" in condition else
+             "1/0", "output": str(tmp_path / "pairs.lyrdb"), "layer": "100/0", **condition}
+    alone = klayout(PACKAGE / "join.py", **words)
+    assert alone.returncode == 1 and "layer and layout are given together" in alone.stderr
+    for name in ("marked.gds", "marked.oas"):
+        ended = klayout(PACKAGE / "join.py", layout=str(tmp_path / name), **words)
+        assert ended.returncode == 0, ended.stderr
+        shown = klayout(written(tmp_path, "shown.py", SHOWN), file=str(tmp_path / name))
+        assert shown.stdout.splitlines() == [f"{FIRST} {SECOND}", shape]
+
+
+CALLS = {
+    "calls.py": """
+import sys
+import pya
+from rjoin_klayout import regions
+layout = pya.Layout()
+layout.read(file)
+first, second = (pya.Region(layout.top_cell().begin_shapes_rec(layout.layer(number, 0)))
+                 for number in (1, 2))
+print(regions.select(first, "contains", second))
+print(regions.space(first, first, 60))
+try:
+    regions.select(first, "contain", second)
+except Exception as fault:
+    print(fault)
+""",
+    "calls.rb": """
+require "rjoin"
+layout = RBA::Layout.new
+layout.read($file)
+first, second = [1, 2].collect do |number|
+  RBA::Region.new(layout.top_cell.begin_shapes_rec(layout.layer(number, 0)))
+end
+puts Rjoin.select(first, "contains", second).to_s
+puts Rjoin.space(first, first, 60).to_s
+begin
+  Rjoin.select(first, "contain", second)
+rescue => fault
+  puts fault.message
+end
+""",
+    "calls.drc": """
+require "rjoin"
+source($file)
+first, second = input(1, 0), input(2, 0)
+puts first.rjoin_select("contains", second).data.to_s
+puts first.rjoin_space(0.06).data.to_s
+begin
+  first.rjoin_select("contain", second)
+rescue => fault
+  puts fault.message.lines.first
+end
+"""}
+
+
+@pytest.mark.parametrize("name", list(CALLS))
+def test_calls_from_scripts(klayout: Any, boxes: Path, tmp_path: Path, name: str) -> None:
+    """In Python, Ruby and DRC, of the installed package: the same answers and faults."""
+    (tmp_path / "home/salt").mkdir(parents=True)
+    (tmp_path / "home/salt/rjoin").symlink_to(PACKAGE)
+    ended = klayout_run(["-b", "-r", str(written(tmp_path, name, CALLS[name]))],
+                        {"file": str(boxes)}, KLAYOUT_HOME=str(tmp_path / "home"))
+    first, space, fault, *_ = ended.stdout.splitlines()
+    assert (first, space) == (FIRST, "(150,20;150,60)/(100,60;100,20)"), ended.stderr
+    assert "not a name or a mask" in fault
 
 
 def test_a_failing_program_leaves_nothing(klayout: Any, town: Path, tmp_path: Path) -> None:
@@ -530,13 +728,15 @@ try:
     print(asked.merged.text, asked.merged.checked)
     asked.space.text = "0.5"
     print(asked.request())
-    asked.space.text = ""
+    asked.space.text, asked.layer.text = "", "100/0"
     asked.merged.checked = asked.matrices.checked = False
     asked.others.currentIndex, asked.mode.currentIndex = 2, 1
     print(asked.request())
     asked.others.currentIndex = asked.mode.currentIndex = 0
     asked.matrices.checked = True
     print(dialog.show(view, asked.request()), view.num_rdbs())
+    layout = view.active_cellview().layout()
+    print(pya.Region(layout.top_cell().begin_shapes_rec(layout.layer(100, 0))).count() > 0)
 except Exception:
     traceback.print_exc()
 sys.stdout.flush()
@@ -556,10 +756,12 @@ def test_package_with_its_dialog(klayout: Any, town: Path, tmp_path: Path) -> No
         "Join layers by relation",
         "Merge the shapes of each layer first True",
         "Request(left='1/0', right='4/0', relation='', space='0.5', "
-        "reading=Reading(others='error', merged=True, mode='flat'), matrices=True)",
+        "reading=Reading(others='error', merged=True, mode='flat'), matrices=True, "
+        "layer='')",
         "Request(left='1/0', right='4/0', relation='overlaps', space='', "
-        "reading=Reading(others='skip', merged=False, mode='cell'), matrices=False)",
-        "20 1"
+        "reading=Reading(others='skip', merged=False, mode='cell'), matrices=False, "
+        "layer='100/0')",
+        "20 1", "True"
     ], ended.stderr
 
 

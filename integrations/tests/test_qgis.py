@@ -4,6 +4,7 @@ from __future__ import annotations
 import csv
 import json
 import os
+import random
 import shutil
 import subprocess
 import sys
@@ -312,11 +313,11 @@ def test_the_map_of_the_world(runs: Any, tmp_path: Path) -> None:
     rounded = [{"algorithm": "native:snappointstogrid", "parameters": {
         "INPUT": source, "HSPACING": 1e-6, "VSPACING": 1e-6, "OUTPUT": path}}
         for source, path in zip((countries, borders), paths)]
-    stopped, whole, _, _, theirs, within, native = runs([
+    whole, given, _, _, theirs, within, native = runs([
         ours(countries, borders, "intersects"), ours(countries, borders, "intersects", DECIMALS=6),
         *rounded, natives(paths[0], paths[1], "intersects"),
-        ours(countries, countries, "within", DECIMALS=6), natives(countries, countries, "within")])
-    assert "isn't written exactly by 6 decimals" in stopped["error"]
+        ours(countries, countries, "within"), natives(countries, countries, "within")])
+    assert "Decimals of the coordinates: 6" in whole["log"] and whole["rows"] == given["rows"]
     assert numbers(whole) == numbers(theirs) and len(numbers(whole)) == 80
     assert compared(within) == compared(native) and within["results"]["PAIRS"] == 240
 
@@ -367,19 +368,19 @@ def test_decimals_of_distances(runs: Any, tmp_path: Path) -> None:
     one = layer(tmp_path / "one.csv", {"a": "POINT (0 0)"})
     other = layer(tmp_path / "other.csv", {"b": "POINT (1 1)", "c": "POINT (2 0.5)"})
     far = layer(tmp_path / "far.csv", {"f": "POINT (30000000 0)"})
-    fine, given, coarse, refused, many, lonely, out_of_range = runs([
+    fine, given, coarse, refused, many, lonely, wide = runs([
         near(one, other, 1.5), near(one, other, 1.5, DECIMALS=1), near(one, far, 4e7),
-        near(one, other, 1.25, DECIMALS=1), near(one, other, 0.1234567),
-        near(one, other, 1, DISCARD_NONMATCHING=False), near(one, far, 0.000001)])
+        near(one, other, 1.25, DECIMALS=1), near(one, other, 1.41421362),
+        near(one, other, 1, DISCARD_NONMATCHING=False), near(far, other, 29999998.00000001)])
     assert [row["distance"] for row in fine["rows"]["OUTPUT"]] == [1.414214]
     assert [row["distance"] for row in given["rows"]["OUTPUT"]] == [1.4]
     assert "Decimals of the distances: 4" in coarse["log"] and distances(coarse)
     assert "Distance: 1.25 has more than 1 decimals" in refused["error"]
-    assert "Distance: 0.1234567 isn't written exactly by 6 decimals" in many["error"]
+    assert "Distance: 1.41421362 is rounded to 6 decimals" in many["log"]
+    assert distances(many) == [("a", "b", 1.414214)]
     assert [(row["id"], row["distance"]) for row in lonely["rows"]["OUTPUT"]] == [("a", None)]
-    assert out_of_range["error"] == (
-        "Join layer far, feature 1: coordinate 30000000.0 is out of range with 6 decimals: at most "
-        "4 fit")
+    assert "Distance: 29999998.00000001 is rounded to 4 decimals" in wide["log"]
+    assert distances(wide) == []
 
 
 def test_distances_of_other_shapes(runs: Any) -> None:
@@ -677,22 +678,25 @@ def test_invalid_polygons(runs: Any, tmp_path: Path) -> None:
 
 
 def test_decimals(runs: Any, tmp_path: Path) -> None:
+    """The fewest that write all exactly, or else as many as the range allows."""
     quarter = layer(tmp_path / "quarter.csv", {"a": "POINT (0.25 0.5)", "b": "POINT (0.3 3)"})
     zone = layer(tmp_path / "zone.csv", {"z": "POLYGON ((0.25 0, 1 0, 1 1, 0.25 1, 0.25 0))"})
-    fine = layer(tmp_path / "fine.csv", {"a": "POINT (1 1)", "f": "POINT (0.2500001 0.5)"})
+    fine = layer(tmp_path / "fine.csv", {"a": "POINT (1 1)", "f": "POINT (0.2500001 0.5)",
+                                         "n": "POINT (0.249999 0.5)"})
     far = layer(tmp_path / "far.csv", {"a": "POINT (1 1)", "far": "POINT (2000000 0.000001)"})
-    exact, inexact, rounded, out_of_range, whole = runs([
+    exact, automatic, rounded, far_away, whole = runs([
         ours(quarter, zone, "touches"), ours(fine, zone, "touches"),
         ours(fine, zone, "touches", DECIMALS=2), ours(far, zone, "touches"),
         ours(quarter, zone, "touches", DECIMALS=0)])
     assert pairs(whole) == [("a", "z")] and "Decimals of the coordinates: 0" in whole["log"]
     assert "Join layer zone: features with coordinates rounded to 0 decimals: 1" in whole["log"]
     assert pairs(exact) == [("a", "z")] and "Decimals of the coordinates: 2" in exact["log"]
-    assert "fine, feature 2: coordinate 0.2500001 isn't written exactly" in inexact["error"]
-    assert "give the parameter Decimals (DECIMALS) to round to, at most 6" in inexact["error"]
-    assert pairs(rounded) == [("a", "z"), ("f", "z")]
-    assert "Base layer fine: features with coordinates rounded to 2 decimals: 1" in rounded["log"]
-    assert "far, feature 2: coordinate 2000000.0 is out of range" in out_of_range["error"]
+    assert pairs(automatic) == [("a", "z"), ("f", "z")]
+    assert "Base layer fine: features with coordinates rounded to 6 decimals: 1" in automatic["log"]
+    assert pairs(rounded) == [("a", "z"), ("f", "z"), ("n", "z")]
+    assert "Base layer fine: features with coordinates rounded to 2 decimals: 2" in rounded["log"]
+    assert pairs(far_away) == [("a", "z")]
+    assert "Base layer far: features with coordinates rounded to 5 decimals: 1" in far_away["log"]
 
 
 def test_decimals_of_any_geometry(runs: Any, tmp_path: Path) -> None:
@@ -705,10 +709,12 @@ def test_decimals_of_any_geometry(runs: Any, tmp_path: Path) -> None:
     points = layer(tmp_path / "points.csv", {
         "east": "POINT (0.13 0.5)", "west": "POINT (-0.13 0.5)", "middle": "POINT (0 0)",
         "end": "POINT (1.01 2)", "far": "POINT (9 9)"})
-    inexact, stopped, rounded = runs([
+    automatic, stopped, rounded = runs([
         ours(points, lines, "intersects"), ours(points, lines, "intersects", DECIMALS=2),
         ours(points, lines, "intersects", DECIMALS=2, OTHERS=LEAVE_OUT, JOIN_LEFT_OUT="memory:")])
-    assert "lines, feature 3: coordinate -2.000000001 isn't written exactly" in inexact["error"]
+    assert pairs(automatic) == [("far", "short"), ("far", "tiny"), ("middle", "slanted")]
+    assert "Join layer lines: features with coordinates rounded to 6 decimals: 1" in (
+        automatic["log"])
     assert "lines, feature 5: not points, lines or polygons that rjoin reads, but a line that has" \
         " no length once rounded to 2 decimals" in stopped["error"]
     assert pairs(rounded) == [("east", "east"), ("end", "slanted"), ("far", "short"),
@@ -716,25 +722,20 @@ def test_decimals_of_any_geometry(runs: Any, tmp_path: Path) -> None:
     assert "Join layer lines: features with coordinates rounded to 2 decimals: 4" in rounded["log"]
 
 
-def test_reference_systems_must_agree(runs: Any, tmp_path: Path) -> None:
-    packages = []
-    for system in ("EPSG:32632", "EPSG:32633"):
-        packages.append(str(tmp_path / f"{system[5:]}.gpkg"))
-    requests: List[Run] = [
+def test_a_layer_without_a_reference_system(runs: Any, tmp_path: Path) -> None:
+    """It is taken for one of the other layer's."""
+    path = str(tmp_path / "stations.gpkg")
+    _, both, *answers = runs([
         {"algorithm": "native:assignprojection", "parameters": {
-            "INPUT": town("stations"), "CRS": f"EPSG:{Path(path).stem}", "OUTPUT": path}}
-        for path in packages]
-    one, other = packages
-    answers = runs([*requests, ours(one, other, "equals"), ours(one, one, "equals"),
-                    ours(town("stations"), one, "equals"), ours(one, town("stations"), "equals")])
-    name = "EPSG:32632 - WGS 84 / UTM zone 32N"
-    assert f"The reference systems differ: {name} of the base layer, and EPSG:32633 - " in (
-        answers[2]["error"])
-    assert len(pairs(answers[3])) == len(station_ids())
-    for answer, without, other in zip(answers[4:], ("base", "join"), ("join", "base")):
+            "INPUT": town("stations"), "CRS": "EPSG:32632", "OUTPUT": path}},
+        ours(path, path, "equals"), ours(town("stations"), path, "equals"),
+        ours(path, town("stations"), "equals")])
+    assert len(pairs(both)) == len(station_ids())
+    for answer, without, other in zip(answers, ("base", "join"), ("join", "base")):
+        assert pairs(answer) == pairs(both)
         assert answer["systems"]["OUTPUT"] == "EPSG:32632"
         assert (f"The {without} layer has no reference system; that of the {other} layer is taken: "
-                f"{name}") in answer["log"]
+                "EPSG:32632 - WGS 84 / UTM zone 32N") in answer["log"]
 
 
 LOCAL = """WKT:PROJCRS["Grid of the works",BASEGEOGCRS["WGS 84",DATUM["World Geodetic System 1984",
@@ -743,16 +744,201 @@ ID["EPSG",9807]],PARAMETER["Longitude of natural origin",9.12]],CS[Cartesian,2],
 AXIS["(N)",north],LENGTHUNIT["metre",1]]"""
 
 
-def test_reference_systems_without_a_code_are_named(runs: Any, tmp_path: Path) -> None:
+def test_reference_systems_without_a_code(runs: Any, tmp_path: Path) -> None:
+    """They are named; a window of another one is reprojected, as QGIS's own extraction does."""
     paths = [str(tmp_path / f"{name}.gpkg") for name in ("local", "known")]
-    answers = runs([*({"algorithm": "native:assignprojection", "parameters": {
+    window = "513360,513395,1,22.5 [EPSG:32632]"
+    *_, joined, own, theirs = runs([*({"algorithm": "native:assignprojection", "parameters": {
         "INPUT": town("stations"), "CRS": system, "OUTPUT": path}}
         for path, system in zip(paths, (LOCAL.replace("\n", ""), "EPSG:32632"))),
         ours(paths[0], paths[1], "equals"),
         {"algorithm": "rjoin:featuresinwindow", "parameters": {
-            "INPUT": paths[0], "WINDOW": "0,9,0,9 [EPSG:32632]", "OUTPUT": "memory:"}}])
-    assert "differ: Grid of the works of the base layer" in answers[2]["error"]
-    assert "of the window, and Grid of the works of the layer" in answers[3]["error"]
+            "INPUT": paths[0], "WINDOW": window, "OUTPUT": "memory:"}},
+        {"algorithm": "native:extractbyextent", "parameters": {
+            "INPUT": paths[0], "EXTENT": window, "CLIP": False, "OUTPUT": "memory:"}}])
+    assert joined["error"] is None and not joined["rows"]["OUTPUT"]
+    assert any(line.startswith("The join layer is reprojected from EPSG:32632 - WGS 84 / UTM zone "
+                               "32N to Grid of the works, that") for line in joined["log"])
+    assert own["error"] is None and own["rows"]["OUTPUT"] == theirs["rows"]["OUTPUT"]
+    assert 0 < own["results"]["COUNT"] < len(station_ids())
+
+
+def native_join(name: str, parameters: Dict[str, Any]) -> List[Run]:
+    """The same parameters for rjoin's algorithm and for QGIS's own of the same name."""
+    provider = "qgis" if name == "joinbylocationsummary" else "native"
+    return [{"algorithm": f"{one}:{name}", "parameters": {"OUTPUT": "memory:", **parameters}}
+            for one in ("rjoin", provider)]
+
+
+def random_layers(runs: Any, folder: Path, seed: int, grid: float = 1) -> List[str]:
+    """Two GeoPackages of rectangles and triangles on a grid, which touch and equal each other
+    often if it is wide, with numbers, texts, dates and nothing as fields."""
+    source, paths = random.Random(seed), []
+    for name, count in (("left", 90), ("right", 60)):
+        rows = [("wkt", "id", "size", "kind", "day")]
+        for number in range(count):
+            x, y, w, h = (grid * source.randint(int(1 / grid), int(most / grid))
+                          for most in (9, 9, 3, 3))
+            corners = [(x, y), (x + w, y), (x + w, y + h), (x, y + h)][:source.randint(3, 4)]
+            ring = ", ".join(f"{a} {b}" for a, b in [*corners, corners[0]])
+            rows.append((f"POLYGON (({ring}))", f"{name[0]}{number}",
+                         source.choice(["", str(source.randrange(9)), "2.5"]),
+                         source.choice(["", "field", "wood"]),
+                         source.choice(["", f"2026-01-{source.randint(1, 9):02}"])))
+        text, path = folder / f"{name}.csv", folder / f"{name}.gpkg"
+        with open(text, "w", encoding="utf-8", newline="") as file:
+            csv.writer(file).writerows(rows)
+        text.with_suffix(".csvt").write_text('"WKT","String","Real","String","Date"\n',
+                                             encoding="utf-8")
+        (answer,) = runs([{"algorithm": "native:savefeatures", "parameters": {
+            "INPUT": str(text), "OUTPUT": str(path)}}])
+        assert answer["error"] is None, answer
+        paths.append(str(path))
+    return paths
+
+
+def rows_alike(own: Dict[str, Any], native: Dict[str, Any], output: str = "OUTPUT") -> int:
+    """Compares the fields, in their order, and all rows but for the order of these."""
+    assert own["error"] is None and native["error"] is None, (own["error"], native["error"])
+    mine, theirs = own["rows"][output], native["rows"][output]
+    assert [list(row) for row in mine[:1]] == [list(row) for row in theirs[:1]]
+    assert own["types"][output] == native["types"][output]
+    assert sorted(map(str, mine)) == sorted(map(str, theirs))
+    return len(mine)
+
+
+@pytest.mark.parametrize("method", [0, 1, 2])
+def test_join_attributes_by_location(runs: Any, tmp_path: Path, method: int) -> None:
+    """Each predicate by its number in QGIS's own algorithm, and several; the first match and the
+    one with the largest overlap.
+
+    The first is that of the join layer's order. QGIS takes that too where the base layer has more
+    features, and else that of a spatial index, as of those that share equally much: so the layers
+    for this have few coordinates in common.
+    """
+    left, right = random_layers(runs, tmp_path, 7 + method, 1 if method < 2 else 0.001)
+    layers: Dict[str, Any] = {"INPUT": left, "JOIN": right, "METHOD": method,
+                              "NON_MATCHING": "memory:"}
+    forms: List[Dict[str, Any]] = [
+        *({"PREDICATE": [number]} for number in range(len(NATIVE))), {},
+        {"PREDICATE": [3, 5, 0], "DISCARD_NONMATCHING": True, "PREFIX": "of_"},
+        {"PREDICATE": [1], "JOIN_FIELDS": ["kind", "id"]}]
+    answers = runs([run for more in forms
+                    for run in native_join("joinattributesbylocation", {**layers, **more})])
+    for more, own, native in zip(forms, answers[::2], answers[1::2]):
+        assert rows_alike(own, native) > 0, more
+        rows_alike(own, native, "NON_MATCHING")
+        lonely = len(own["rows"]["NON_MATCHING"])
+        assert own["results"]["JOINED_COUNT"] == 90 - lonely  # QGIS may count pairs
+    joined = [answer["results"]["JOINED_COUNT"] > 0 for answer in answers[:12:2]]
+    assert all(joined if method < 2 else joined[:2] + joined[4:])
+
+
+def test_join_attributes_by_location_summary(runs: Any, tmp_path: Path) -> None:
+    """Of numbers, texts, dates and nothing, beside QGIS's own."""
+    left, right = random_layers(runs, tmp_path, 11)
+    forms: List[Dict[str, Any]] = [
+        {}, {"PREDICATE": [4, 2], "DISCARD_NONMATCHING": True}, {"PREDICATE": [1, 5]},
+        {"JOIN_FIELDS": ["size", "kind"], "SUMMARIES": [18, 5, 0, 6, 12]}]
+    answers = runs([run for more in forms for run in native_join(
+        "joinbylocationsummary", {"INPUT": left, "JOIN": right, **more})])
+    for more, own, native in zip(forms, answers[::2], answers[1::2]):
+        assert rows_alike(own, native) > 0, more
+    assert [name for name in answers[-2]["rows"]["OUTPUT"][0] if name.startswith("size_")] == [
+        "size_count", "size_sum", "size_mean", "size_q3"]
+
+
+@pytest.mark.parametrize("more", [{}, {"NEIGHBORS": 3, "PREFIX": "near_"},
+                                  {"NEIGHBORS": 2, "MAX_DISTANCE": 2.5, "FIELDS_TO_COPY": ["id"]}])
+def test_join_attributes_by_nearest(runs: Any, tmp_path: Path, more: Dict[str, Any]) -> None:
+    """QGIS rounds distances before it compares them: its rows are among rjoin's, which are those
+    of all distances."""
+    left, right = random_layers(runs, tmp_path, 19)
+    own, native, every = runs([
+        *native_join("joinbynearest", {"INPUT": left, "INPUT_2": right, "NON_MATCHING": "memory:",
+                                       **more}),
+        nearest(left, right, NEIGHBORS=1000)])
+    assert own["error"] is None, own["error"]
+    other = f"{more['PREFIX']}id" if "PREFIX" in more else "id_2"
+    mine, theirs = ({(row["id"], row[other], round(row["distance"] or 0, 6))
+                     for row in answer["rows"]["OUTPUT"] if row[other]} for answer in (own, native))
+    assert sorted(mine) == nearest_of(distances(every), more) and theirs <= mine
+    assert list(own["rows"]["OUTPUT"][0]) == list(native["rows"]["OUTPUT"][0])
+    rows_alike(own, native, "NON_MATCHING")
+    for name in ("JOINED_COUNT", "UNJOINABLE_COUNT"):
+        assert own["results"][name] == native["results"][name]
+
+
+def test_parameters_are_those_of_qgis(runs: Any) -> None:
+    """Each parameter of QGIS's own algorithm with its name, words, choices and value unless given,
+    in its order; what rjoin adds is behind them, and among the advanced ones."""
+    for name in ("joinattributesbylocation", "joinbylocationsummary", "joinbynearest"):
+        own, native = runs([{"parameters_of": run["algorithm"]} for run in native_join(name, {})])
+        count = len(native["parameters"])
+        assert own["parameters"][:count] == native["parameters"] and count >= 7
+        assert all(parameter["advanced"] for parameter in own["added"])
+
+
+def saved(runs: Any, source: str, path: Path, system: str) -> str:
+    """A layer as it is reprojected into a GeoPackage."""
+    (answer,) = runs([{"algorithm": "native:reprojectlayer", "parameters": {
+        "INPUT": source, "TARGET_CRS": system, "OUTPUT": str(path)}}])
+    assert answer["error"] is None, answer
+    return str(path)
+
+
+def degrees(path: Path, seed: int) -> str:
+    """Random squares about (9, 48), in degrees of many digits, as GeoJSON."""
+    source, features = random.Random(seed), []
+    for number in range(80):
+        x, y, size = 9 + source.random() / 5, 48 + source.random() / 5, source.random() / 50
+        ring = [[x, y], [x + size, y], [x + size, y + size], [x, y + size], [x, y]]
+        features.append({"type": "Feature", "properties": {"id": f"{seed}/{number}"},
+                         "geometry": {"type": "Polygon", "coordinates": [ring]}})
+    path.write_text(json.dumps({"type": "FeatureCollection", "features": features}),
+                    encoding="utf-8")
+    return str(path)
+
+
+def test_layers_of_other_reference_systems(runs: Any, tmp_path: Path) -> None:
+    """The join layer is reprojected as QGIS's own algorithms do, and rounded to what fits."""
+    left = degrees(tmp_path / "left.geojson", 1)
+    right = saved(runs, degrees(tmp_path / "right.geojson", 2), tmp_path / "right.gpkg",
+                  "EPSG:32632")
+    answers = runs([run for layers in ((left, right), (right, left)) for run in (
+        *native_join("joinattributesbylocation", {"INPUT": layers[0], "JOIN": layers[1]}),
+        *native_join("joinbynearest", {"INPUT": layers[0], "INPUT_2": layers[1]}))])
+    for own, native in zip(answers[::2], answers[1::2]):
+        assert own["error"] is None, own["error"]
+        found, theirs = ({(row["id"], row["id_2"]) for row in answer["rows"]["OUTPUT"]}
+                         for answer in (own, native))
+        assert found == theirs and len(found) > 80
+        assert own["systems"]["OUTPUT"] == native["systems"]["OUTPUT"]
+        assert {row["geometry"] for row in own["rows"]["OUTPUT"]} == {
+            row["geometry"] for row in native["rows"]["OUTPUT"]}
+    assert [answer["systems"]["OUTPUT"] for answer in answers[::4]] == ["EPSG:4326", "EPSG:32632"]
+    assert ("The join layer is reprojected from EPSG:32632 - WGS 84 / UTM zone 32N to EPSG:4326 - "
+            "WGS 84, that of the base layer") in answers[0]["log"]
+    assert "Decimals of the coordinates: 6" in answers[0]["log"]
+    assert "Decimals of the coordinates: 5" in answers[4]["log"]
+
+
+def test_what_cannot_be_reprojected(runs: Any, tmp_path: Path) -> None:
+    """It is listed by the reference system of the base layer."""
+    left = saved(runs, degrees(tmp_path / "left.geojson", 1), tmp_path / "left.gpkg", "EPSG:3857")
+    right = tmp_path / "right.geojson"
+    right.write_text(json.dumps({"type": "FeatureCollection", "features": [
+        {"type": "Feature", "properties": {"id": name},
+         "geometry": {"type": "Point", "coordinates": [9.1, latitude]}}
+        for name, latitude in (("here", 48.1), ("nowhere", 95))]}), encoding="utf-8")
+    stopped, left_out = runs([
+        ours(left, str(right), "intersects"),
+        ours(left, str(right), "intersects", OTHERS=LEAVE_OUT, JOIN_LEFT_OUT="memory:")])
+    reason = "no geometry, or one that can't be reprojected"
+    assert f"but {reason}" in stopped["error"]
+    assert [(row["id"], row["reason"]) for row in left_out["rows"]["JOIN_LEFT_OUT"]] == [
+        ("nowhere", reason)]
+    assert left_out["systems"]["JOIN_LEFT_OUT"] == "EPSG:3857"
 
 
 def test_messages_name_the_base_layer_or_the_join_layer(runs: Any, tmp_path: Path) -> None:
@@ -764,12 +950,13 @@ def test_messages_name_the_base_layer_or_the_join_layer(runs: Any, tmp_path: Pat
     table.write_text("id,name\na,b\n", encoding="utf-8")
     parcels = town("parcels")
     inexact, base, join, no_field, neither = runs([
-        ours(same[0], same[1], "equals"), ours(str(table), parcels, "equals", OTHERS=LEAVE_OUT),
+        ours(same[0], same[1], "equals", DECIMALS=2),
+        ours(str(table), parcels, "equals", OTHERS=LEAVE_OUT),
         ours(parcels, str(table), "equals", OTHERS=LEAVE_OUT),
         ours(same[0], parcels, "equals", METHOD=1, INPUT_ID="name"),
         {"algorithm": "rjoin:layerstatistics", "parameters": {
             "INPUT": str(table), "OTHERS": LEAVE_OUT}}])
-    assert inexact["error"].startswith("Join layer same, feature 1: coordinate 0.1234567")
+    assert "Join layer same: features with coordinates rounded to 2 decimals: 1" in inexact["log"]
     assert base["error"] == "Base layer table has no geometries"
     assert join["error"] == "Join layer table has no geometries"
     assert no_field["error"] == "Base layer same has no field name"
@@ -791,10 +978,10 @@ def test_what_is_out_of_range(runs: Any, tmp_path: Path) -> None:
     fine = layer(tmp_path / "fine.csv", {"z": "POLYGON ((0 0, 2.000001 0, 0 2.000001, 0 0))"})
     out = {"INPUT_LEFT_OUT": "memory:", "OTHERS": LEAVE_OUT}
     limits = layer(tmp_path / "limits.csv", dict(list(squares.items())[:2]))
-    (beyond, found, given, left_out, by_given, envelopes, partner, by_distance, counted,
+    (beyond, automatic, given, left_out, by_given, envelopes, partner, by_distance, counted,
      window) = runs([
-        ours(far, fine, "overlaps"), ours(limits, fine, "overlaps"),
-        ours(limits, fine, "overlaps", DECIMALS=6), ours(far, fine, "overlaps", **out),
+        ours(far, fine, "overlaps"), ours(limits, fine, "touches"),
+        ours(limits, fine, "overlaps", DECIMALS=6), ours(far, fine, "touches", **out),
         ours(far, fine, "overlaps", DECIMALS=6, **out),
         ours(mixed, fine, "intersects", OTHERS=ENVELOPE, INPUT_LEFT_OUT="memory:"),
         ours(fine, far, "overlaps", OTHERS=LEAVE_OUT, DISCARD_NONMATCHING=False),
@@ -806,18 +993,22 @@ def test_what_is_out_of_range(runs: Any, tmp_path: Path) -> None:
             "OUTPUT": "memory:", "LEFT_OUT": "memory:"}}])
     assert beyond["error"] == ("Base layer far, feature 3: coordinate 20000000000000.0 is out of "
                                "range: the limit is 1,000,000,000,000")
-    assert found["error"] == given["error"] == (
+    assert given["error"] == (
         "Base layer limits, feature 1: coordinate 2000000.0 is out of range with 6 decimals: at "
         "most 5 fit")
+    assert pairs(automatic) == [("near", "z")]
+    assert "Join layer fine: features with coordinates rounded to 5 decimals: 1" in automatic["log"]
     reasons = {"beyond": "a coordinate out of range",
                "far": "a coordinate out of range with 6 decimals",
                "further": "a coordinate out of range with 6 decimals"}
     for answer in (left_out, by_given, by_distance, envelopes):
         assert {(row["id"], row["id_2"]) for row in answer["rows"]["OUTPUT"]} >= {("near", "z")}
-        assert {row["id"]: row["reason"] for row in answer["rows"]["INPUT_LEFT_OUT"]} == reasons
+        gone = {row["id"]: row["reason"] for row in answer["rows"]["INPUT_LEFT_OUT"]}
+        assert gone == (reasons if answer in (by_given, by_distance)
+                        else {"beyond": reasons["beyond"]})
     assert {row["id"]: row["exact"] for row in envelopes["rows"]["OUTPUT"]} == {
         "near": True, "curve": False, "box": True}
-    assert "features left out: 3, each of which may be the partner" in partner["error"]
+    assert "features left out: 1, each of which may be the partner" in partner["error"]
     assert (counted["results"]["FEATURES"], counted["results"]["LEFT_OUT_COUNT"]) == (2, 2)
     assert [row["id"] for row in window["rows"]["OUTPUT"]] == ["near"]
     assert [row["id"] for row in window["rows"]["LEFT_OUT"]] == ["beyond", "further"]
@@ -827,11 +1018,13 @@ def test_coordinates_below_zero(runs: Any, tmp_path: Path) -> None:
     """Their size counts without the sign, also where no other is out of range."""
     below = layer(tmp_path / "below.csv", {"below": square(1, -3000000), "near": square(1, 1)})
     fine = layer(tmp_path / "fine.csv", {"z": "POLYGON ((0 0, 2.000001 0, 0 2.000001, 0 0))"})
-    stopped, left_out = runs([ours(below, fine, "overlaps"), ours(
-        below, fine, "overlaps", OTHERS=LEAVE_OUT, INPUT_LEFT_OUT="memory:")])
+    automatic, stopped, left_out = runs([
+        ours(below, fine, "touches"), ours(below, fine, "overlaps", DECIMALS=6),
+        ours(below, fine, "overlaps", DECIMALS=6, OTHERS=LEAVE_OUT, INPUT_LEFT_OUT="memory:")])
+    assert pairs(automatic) == pairs(left_out) == [("near", "z")]
+    assert "Decimals of the coordinates: 5" in automatic["log"]
     assert stopped["error"] == ("Base layer below, feature 1: coordinate -3000000.0 is out of range"
                                 " with 6 decimals: at most 5 fit")
-    assert pairs(left_out) == [("near", "z")]
     assert [row["id"] for row in left_out["rows"]["INPUT_LEFT_OUT"]] == ["below"]
 
 

@@ -57,9 +57,9 @@ polygons stop the run; or are left out; or, without filtering, are read by the e
 point is inside if a ray from it crosses the rings an odd number of times.</p>
 <h3>Decimals</h3>
 <p>rjoin computes with decimal numbers. Unless the number of decimals is given, it is the \
-fewest, 0 to 6, that write every coordinate exactly; where 6 don't, the run stops at that feature. \
-If it is given, rjoin rounds coordinates to it, half a unit away from zero, and the log says how \
-many features changed.</p>
+fewest, 0 to 6, that write every coordinate exactly; where 6 don't, it is 6, or as many as the \
+size of the coordinates allows. Coordinates with more are rounded, half a unit away from zero, and \
+the log says how many features changed.</p>
 """
 
 
@@ -82,20 +82,27 @@ class RjoinAlgorithm(QgsProcessingAlgorithm):
             ["Stop with an error", "Take their envelopes", "Leave them out and list them"],
             defaultValue=0))
         self.addParameter(QgsProcessingParameterNumber(
-            DECIMALS, "Decimals to round coordinates to (all that the data has unless given)",
+            DECIMALS, "Decimals to round coordinates to (all that the data has, or as many as fit, "
+            "unless given)",
             QgsProcessingParameterNumber.Integer, None, True, 0, units.MOST_DECIMALS))
 
     def add_workers(self) -> None:
         """Adds the number of threads that join."""
-        workers = QgsProcessingParameterNumber(
-            WORKERS, "Threads", QgsProcessingParameterNumber.Integer, 4, False, 1, MOST_WORKERS)
-        workers.setFlags(workers.flags() | QgsProcessingParameterDefinition.FlagAdvanced)
-        self.addParameter(workers)
+        self.addParameter(QgsProcessingParameterNumber(
+            WORKERS, "Threads", QgsProcessingParameterNumber.Integer, 4, False, 1, MOST_WORKERS))
+        self.make_advanced(WORKERS)
 
-    def add_left_out(self, name: str, title: str) -> None:
-        """Adds an output of features left out."""
+    def make_advanced(self, *names: str) -> None:
+        """Shows parameters among the advanced ones of the dialog alone."""
+        for name in names:
+            self.parameterDefinition(name).setFlags(
+                self.parameterDefinition(name).flags()
+                | QgsProcessingParameterDefinition.FlagAdvanced)
+
+    def add_left_out(self, name: str, title: str, by_default: bool = True) -> None:
+        """Adds an output of features left out, which the dialog asks for by default or not."""
         self.addParameter(QgsProcessingParameterFeatureSink(name, title, optional=True,
-                                                            createByDefault=True))
+                                                            createByDefault=by_default))
 
     def source_of(self, parameters: Dict[str, Any], name: str, context: QgsProcessingContext
                   ) -> QgsProcessingFeatureSource:
@@ -138,11 +145,11 @@ class RjoinAlgorithm(QgsProcessingAlgorithm):
         return Output(name, sink, identifier)
 
     def write_left_out(self, parameters: Dict[str, Any], name: str, context: QgsProcessingContext,
-                       source: QgsProcessingFeatureSource, layer: Layer) -> Dict[str, Any]:
+                       source: QgsProcessingFeatureSource, layer: Layer,
+                       system: QgsCoordinateReferenceSystem) -> Dict[str, Any]:
         """Writes the features that were left out, with their fields and the reason."""
         fields = with_fields(source.fields(), [QgsField("reason", QVariant.String)])
-        output = self.sink_of(parameters, name, context, fields, source.sourceCrs(),
-                              source.wkbType())
+        output = self.sink_of(parameters, name, context, fields, system, source.wkbType())
         output.add(map(_with_reason, layer.left_out))
         return output.result()
 

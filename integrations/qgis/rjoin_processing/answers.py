@@ -44,12 +44,12 @@ def exact_field() -> QgsField:
 class Meaning(NamedTuple):
     """The inferences from pairs where some features are replaced or left out.
 
-    `lonely_is_exact`: no partner by envelopes means none by the shapes. `needs_all`: a pair rests
-    on all features of the join layer, as the nearest does.
+    `lonely_is_exact`: no partner by envelopes means none by the shapes. `needs_all`: what any
+    feature of the join layer may do to a row, if each row rests on all of them.
     """
 
     lonely_is_exact: bool
-    needs_all: bool = False
+    needs_all: str = ""
 
 
 @dataclass
@@ -95,6 +95,14 @@ class JoinFields:
         """The flags of a base feature without a partner."""
         exact = self.meaning.lonely_is_exact or not (
             left in self.left.envelopes or self.right.envelopes)
+        return [flag for flag, is_there in ((exact, self.has_exact),
+                                            (not self.right.left_out, self.has_known)) if is_there]
+
+    def of_summary(self, left: int, partners: List[int]) -> List[Any]:
+        """The flags of a base feature with a summary of all its partners: these are all by the
+        shapes too if no partner by envelopes means none by these, and none rests on one."""
+        exact = not (left in self.left.envelopes or self.right.envelopes.intersection(partners)
+                     or (self.right.envelopes and not self.meaning.lonely_is_exact))
         return [flag for flag, is_there in ((exact, self.has_exact),
                                             (not self.right.left_out, self.has_known)) if is_there]
 

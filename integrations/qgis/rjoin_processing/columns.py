@@ -77,6 +77,17 @@ def nothing() -> Columns:
                    np.empty(0, np.uint8))
 
 
+def may_be_points(layer: Columns, decimals: int) -> bool:
+    """Whether rounding may make a point of a line or ring that isn't one of a box."""
+    runs = np.flatnonzero(layer.leads != NEXT)
+    if not runs.size:
+        return False
+    extent = (np.maximum.reduceat(layer.points, runs) - np.minimum.reduceat(layer.points, runs))
+    is_long = (extent * 10.0**decimals >= 2).any(axis=1)
+    firsts = np.repeat(layer.form, layer.size)[runs]
+    return bool((~is_long & (firsts != BOX) & (firsts != Kind.MULTI_POINT)).any())
+
+
 def of_box(box: Box) -> Columns:
     return Columns(np.array([BOX], np.uint8), np.array([2]), np.reshape(box, (2, 2)),
                    np.array([FIRST, NEXT], np.uint8))

@@ -17,7 +17,7 @@ from qgis.PyQt.QtCore import QVariant
 from . import decimals as units
 from . import program
 from .answers import Meaning, Pairs
-from .layers import Layer, common_decimals, leave_out_far, most_decimals
+from .layers import Layer, common_decimals, most_decimals
 from .report import Report
 
 INTERSECTS = "intersects"
@@ -104,21 +104,30 @@ class Distances(Condition):
     def decimals(self, layers: List[Layer], given: int | None, feedback: QgsProcessingFeedback
                  ) -> int:
         """Those given, else as many as the range of the numbers allows, to which distances are
-        rounded then; but no fewer than write all numbers exactly."""
-        decimals = common_decimals(layers, given, feedback)
+        rounded then."""
         reach = [] if self.distance is None else [self.distance]
         try:
-            if given is None:
-                decimals = _finest(reach, layers, decimals)
-            elif units.rounded_places(reach, decimals).size:
-                raise QgsProcessingException(
-                    f"Distance: {units.text(reach[0])} has more than {decimals} decimals")
-            units.check_limit(reach, decimals)
+            units.check_limit(reach, given or 0)
         except units.CoordinateError as fault:
             raise QgsProcessingException(f"Distance: {fault}") from fault
-        leave_out_far(layers, decimals)
+        most = units.most_decimals(reach)
+        decimals = common_decimals(layers, given, feedback, most)
+        if given is None:
+            decimals = min(most, most_decimals(layers))
+        self._round(decimals, given is not None, feedback)
         feedback.pushInfo(f"Decimals of the distances: {decimals}")
         return decimals
+
+    def _round(self, decimals: int, is_given: bool, feedback: QgsProcessingFeedback) -> None:
+        """Rounds the greatest distance, as coordinates are, unless the decimals are given."""
+        if self.distance is None or not units.rounded_places([self.distance], decimals).size:
+            return
+        if is_given:
+            raise QgsProcessingException(
+                f"Distance: {units.text(self.distance)} has more than {decimals} decimals")
+        feedback.pushWarning(f"Distance: {units.text(self.distance)} is rounded to {decimals} "
+                             "decimals")
+        self.distance = units.in_units(self.distance, decimals) / 10.0**decimals
 
     def commands(self) -> List[List[str]]:
         return [self._asked(None if self.distance is None else units.text(self.distance))]
@@ -131,12 +140,6 @@ class Distances(Condition):
 
     def _asked(self, distance: str | None) -> List[str]:
         return [self.command] if distance is None else [self.command, f"--distance={distance}"]
-
-
-def _finest(reach: Sequence[float], layers: Sequence[Layer], least: int) -> int:
-    """As many decimals as the range allows, but no fewer than write the distance exactly."""
-    fewest = units.fewest_decimals(reach, least)
-    return max(fewest, min(units.most_decimals(reach), most_decimals(layers)))
 
 
 class Within(Distances):
@@ -165,7 +168,8 @@ class Nearest(Distances):
     """
 
     command = "nearest"
-    meaning = Meaning(lonely_is_exact=True, needs_all=True)
+    meaning = Meaning(lonely_is_exact=True,
+                      needs_all="may be nearer than those that are found")
 
     def __init__(self, most: int, distance: float | None, is_same: bool) -> None:
         super().__init__(distance)

@@ -33,13 +33,13 @@ def joined_features(added: JoinFields, right: List[List[Any]], pairs: Pairs,
         if counts[number]:
             geometry, own = feature.geometry(), feature.attributes()
             for partner, values in zip(islice(partners, counts[number]), more):
-                joined = QgsFeature()  # not by `_feature`, as there are many
+                joined = QgsFeature()  # not by `feature_of`, as there are many
                 joined.setGeometry(geometry)
                 joined.setAttributes(own + partner + values)
                 yield joined
         elif nothing is not None:
-            yield _feature(feature.geometry(),
-                           feature.attributes() + nothing + added.of_lonely(number))
+            yield feature_of(feature.geometry(),
+                             feature.attributes() + nothing + added.of_lonely(number))
 
 
 def _numbers(numbers: Any) -> Iterator[int]:
@@ -54,10 +54,10 @@ def lonely_features(added: JoinFields, pairs: Pairs) -> Iterator[QgsFeature]:
     is_lonely[pairs.left] = False
     for number in np.flatnonzero(is_lonely).tolist():
         feature = added.left.features[number]
-        yield _feature(feature.geometry(), feature.attributes() + added.of_lonely(number))
+        yield feature_of(feature.geometry(), feature.attributes() + added.of_lonely(number))
 
 
-def _feature(geometry: QgsGeometry, attributes: List[Any]) -> QgsFeature:
+def feature_of(geometry: QgsGeometry, attributes: List[Any]) -> QgsFeature:
     feature = QgsFeature()
     feature.setGeometry(geometry)
     feature.setAttributes(attributes)

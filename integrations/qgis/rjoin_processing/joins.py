@@ -1,6 +1,7 @@
 """The base of the algorithms that join two layers: parameters, the run and its output."""
 from __future__ import annotations
 
+from enum import Enum
 from pathlib import Path
 from typing import Any, Dict, Iterator, List
 
@@ -25,7 +26,7 @@ from qgis.core import (
     QgsWkbTypes,
 )
 
-from . import joined, program, report, sheet
+from . import joined, overlaps, program, report, sheet, summaries
 from .algorithm import (
     OTHERS,
     WORKERS,
@@ -42,6 +43,7 @@ from .conditions import Condition
 from .layers import (
     Layer,
     Others,
+    System,
     attributes_of,
     format_words,
     read_layer,
@@ -49,16 +51,27 @@ from .layers import (
     write_layer,
 )
 
-ONE_FOR_EACH_PAIR = 0
-PAIRS_ALONE = 1
-FIRST_PARTNER_ALONE = 2
+INCOMPLETE = "INCOMPLETE"
 INCOMPLETE_STOPS = 0
 INCOMPLETE_IS_MARKED = 1
 NON_MATCHING = "NON_MATCHING"
 
+
+class Form(Enum):
+    """What the output has: a feature for each pair, the pairs alone, a base feature with its first
+    partner or the one it shares most with, or with summaries of all its partners."""
+
+    EACH = 0
+    PAIRS_ALONE = 1
+    FIRST = 2
+    LARGEST_OVERLAP = 3
+    SUMMARY = 4
+
+
+FORMS = [Form.EACH, Form.PAIRS_ALONE, Form.FIRST]
+
 JOIN_HELP = """
-<p>Both layers must have the same reference system, since reprojected coordinates have to be \
-rounded; reproject the join layer first where they differ.</p>
+<p>A join layer of another reference system is reprojected to that of the base layer.</p>
 <h3>Base features without a partner</h3>
 <p>A join feature that is left out may be the partner of a base feature that has none in the \
 output. Where join features are left out, such base features stop the run unless they are \
@@ -66,7 +79,13 @@ discarded, or kept with <i>false</i> in the field <i>known</i>.</p>"""
 
 
 class JoinAlgorithm(RjoinAlgorithm):
-    """Joins two layers by a condition, with the fields of both for each pair."""
+    """Joins two layers by a condition, with the fields of both for each pair.
+
+    JOIN and JOIN_FIELDS are the parameters of the join layer and of the fields of it to add.
+    """
+
+    JOIN = "JOIN"
+    JOIN_FIELDS = "JOIN_FIELDS"
 
     def initAlgorithm(self, _configuration: Any = None) -> None:  # noqa: N802
         vector = [QgsProcessing.TypeVectorAnyGeometry]
@@ -81,6 +100,10 @@ class JoinAlgorithm(RjoinAlgorithm):
             NON_MATCHING, "Base features without a partner", optional=True, createByDefault=False))
         self.add_left_out("INPUT_LEFT_OUT", "Base features left out, with the reason")
         self.add_left_out("JOIN_LEFT_OUT", "Join features left out, with the reason")
+        self.add_counts()
+
+    def add_counts(self) -> None:
+        """Adds the numbers that the algorithm answers."""
         for name, title in (("PAIRS", "Number of pairs"),
                             ("JOINED_COUNT", "Number of base features with a partner"),
                             ("UNJOINABLE_COUNT", "Number of base features without a partner")):
@@ -94,22 +117,37 @@ class JoinAlgorithm(RjoinAlgorithm):
         """The condition that the parameters give."""
         raise NotImplementedError
 
+    def form_of(self, parameters: Dict[str, Any], context: QgsProcessingContext) -> Form:
+        """What the output has."""
+        return FORMS[int(self.parameterAsEnum(parameters, "METHOD", context))]
+
+    def summaries_of(self, parameters: Dict[str, Any], context: QgsProcessingContext
+                     ) -> List[str]:
+        """The names of the summaries that the output has, in their order."""
+        return []
+
+    def add_incomplete(self) -> QgsProcessingParameterEnum:
+        """Adds the treatment of base features without a partner if join features are left out."""
+        parameter = QgsProcessingParameterEnum(
+            INCOMPLETE, "Base features without a partner where join features are left out",
+            ["Stop with an error", "Keep them, marked in the field known"],
+            defaultValue=INCOMPLETE_STOPS)
+        self.addParameter(parameter)
+        return parameter
+
     def _add_output_parameters(self) -> None:
         self.addParameter(QgsProcessingParameterEnum(
             "METHOD", "Output",
             ["A base feature with the fields of both layers for each pair",
              "The pairs alone, as a table of two ids",
              "A base feature with the fields of its first partner alone"],
-            defaultValue=ONE_FOR_EACH_PAIR))
+            defaultValue=0))
         self.addParameter(QgsProcessingParameterField(
             "JOIN_FIELDS", "Fields to add (all unless given)", parentLayerParameterName="JOIN",
             allowMultiple=True, optional=True))
         self.addParameter(QgsProcessingParameterBoolean(
             "DISCARD_NONMATCHING", "Discard base features without a partner", False))
-        self.addParameter(QgsProcessingParameterEnum(
-            "INCOMPLETE", "Base features without a partner where join features are left out",
-            ["Stop with an error", "Keep them, marked in the field known"],
-            defaultValue=INCOMPLETE_STOPS))
+        self.add_incomplete()
         self.addParameter(QgsProcessingParameterString(
             "PREFIX", "Prefix of added fields", optional=True))
         self.addParameter(QgsProcessingParameterField(
@@ -137,14 +175,17 @@ class _Run:
         self.steps = Steps(4, feedback)
         self.condition = algorithm.condition_of(parameters, context)
         self.left = algorithm.source_of(parameters, "INPUT", context)
-        self.right = algorithm.source_of(parameters, "JOIN", context)
+        self.right = algorithm.source_of(parameters, algorithm.JOIN, context)
         self.others = Others(algorithm.parameterAsEnum(parameters, OTHERS, context))
-        self.method = algorithm.parameterAsEnum(parameters, "METHOD", context)
-        self.incomplete = algorithm.parameterAsEnum(parameters, "INCOMPLETE", context)
-        self.keeps_lonely = self.method != PAIRS_ALONE and not algorithm.parameterAsBoolean(
+        self.form = algorithm.form_of(parameters, context)
+        self.meaning = self.condition.meaning
+        if self.form == Form.SUMMARY:
+            self.meaning = self.meaning._replace(needs_all="may count in a summary")
+        self.incomplete = algorithm.parameterAsEnum(parameters, INCOMPLETE, context)
+        self.keeps_lonely = self.form != Form.PAIRS_ALONE and not algorithm.parameterAsBoolean(
             parameters, "DISCARD_NONMATCHING", context)
         self.shows_incomplete = (self.keeps_lonely or bool(parameters.get(NON_MATCHING))
-                                 or self.condition.meaning.needs_all)
+                                 or bool(self.meaning.needs_all))
         self.system = QgsCoordinateReferenceSystem()
 
     def run(self, folder: Path) -> Dict[str, Any]:
@@ -153,18 +194,20 @@ class _Run:
         self.system = _common_system(self.left, self.right, self.steps.feedback)
         self.condition.check()
         left = self._read(self.left, "INPUT")
-        right = self._read(self.right, "JOIN")
+        right = self._read(self.right, self.algorithm.JOIN)
         decimals = self._decimals([left, right])
         self._check_complete(right)
         pairs = self._join(folder, left, right, decimals)
         firsts = pairs.firsts()
-        if self.method == FIRST_PARTNER_ALONE:
+        if self.form == Form.FIRST:
             pairs = pairs.chosen(firsts)
+        elif self.form == Form.LARGEST_OVERLAP:
+            pairs = pairs.chosen(overlaps.largest(left, right, pairs, self.steps))
         results = self._write(left, right, pairs)
         results.update(self.algorithm.write_left_out(
-            self.parameters, "INPUT_LEFT_OUT", self.context, self.left, left))
+            self.parameters, "INPUT_LEFT_OUT", self.context, self.left, left, self.system))
         results.update(self.algorithm.write_left_out(
-            self.parameters, "JOIN_LEFT_OUT", self.context, self.right, right))
+            self.parameters, "JOIN_LEFT_OUT", self.context, self.right, right, self.system))
         results["PAIRS"] = pairs.left.size
         results["JOINED_COUNT"] = firsts.size
         results["UNJOINABLE_COUNT"] = len(left.features) - firsts.size
@@ -173,7 +216,10 @@ class _Run:
     def _read(self, source: QgsProcessingFeatureSource, name: str) -> Layer:
         feedback = self.steps.begin(f"Reading {source.sourceName()}")
         rules = self.algorithm.rules_of(self.parameters, name, self.context)
-        layer = read_layer(source, self.algorithm.title_of(name, source), rules, feedback)
+        system = None
+        if source.sourceCrs() != self.system and source.sourceCrs().isValid():
+            system = System(self.system, self.context.transformContext())
+        layer = read_layer(source, self.algorithm.title_of(name, source), rules, feedback, system)
         self.steps.check_cancelled()
         return layer
 
@@ -189,10 +235,10 @@ class _Run:
         """Stops where a feature that was left out may change a row."""
         if not (right.left_out and self.shows_incomplete and self.incomplete == INCOMPLETE_STOPS):
             return
-        if self.condition.meaning.needs_all:
+        if self.meaning.needs_all:
             raise QgsProcessingException(
-                f"{right.name}: features left out: {len(right.left_out)}, each of which may be "
-                "nearer than those that are found. Keep the rows, marked in the field known.")
+                f"{right.name}: features left out: {len(right.left_out)}, each of which "
+                f"{self.meaning.needs_all}. Keep the rows, marked in the field known.")
         raise QgsProcessingException(
             f"{right.name}: features left out: {len(right.left_out)}, each of which may be the "
             "partner of a base feature without one. Discard base features without a partner, "
@@ -217,11 +263,13 @@ class _Run:
 
     def _write(self, left: Layer, right: Layer, pairs: Pairs) -> Dict[str, Any]:
         feedback = self.steps.begin("Writing the output")
-        added = JoinFields(left, right, self.condition.fields(), self.condition.meaning,
+        added = JoinFields(left, right, self.condition.fields(), self.meaning,
                            self.others == Others.ENVELOPE,
                            self.shows_incomplete and self.incomplete == INCOMPLETE_IS_MARKED)
-        if self.method == PAIRS_ALONE:
+        if self.form == Form.PAIRS_ALONE:
             output, features = self._pairs_alone(added, pairs)
+        elif self.form == Form.SUMMARY:
+            output, features = self._summarized(added, pairs)
         else:
             output, features = self._joined(added, pairs)
         count = pairs.left.size
@@ -238,6 +286,8 @@ class _Run:
         self.steps.check_cancelled()
 
     def _write_lonely(self, added: JoinFields, pairs: Pairs) -> Dict[str, Any]:
+        if self.algorithm.parameterDefinition(NON_MATCHING) is None:
+            return {}
         output = self.algorithm.sink_of(
             self.parameters, NON_MATCHING, self.context,
             with_fields(self.left.fields(), added.flags()), self.system, self.left.wkbType())
@@ -246,8 +296,7 @@ class _Run:
 
     def _joined(self, added: JoinFields, pairs: Pairs
                 ) -> tuple[Output, Iterator[QgsFeature]]:
-        names = self.algorithm.parameterAsFields(self.parameters, "JOIN_FIELDS", self.context)
-        places = _places(self.right.fields(), names, added.right)
+        places = self._join_places(added)
         prefix = self.algorithm.parameterAsString(self.parameters, "PREFIX", self.context)
         right = QgsFields()
         for place in places:
@@ -257,6 +306,25 @@ class _Run:
         nothing = [None] * (len(places) + len(added.of_values)) if self.keeps_lonely else None
         return self._output(fields, self.left.wkbType()), joined.joined_features(
             added, attributes_of(added.right, places), pairs, nothing)
+
+    def _join_places(self, added: JoinFields) -> List[int]:
+        """The places of the fields of the join layer that are asked for."""
+        names = self.algorithm.parameterAsFields(self.parameters, self.algorithm.JOIN_FIELDS,
+                                                 self.context)
+        return _places(self.right.fields(), names, added.right)
+
+    def _summarized(self, added: JoinFields, pairs: Pairs
+                    ) -> tuple[Output, Iterator[QgsFeature]]:
+        chosen = self.algorithm.summaries_of(self.parameters, self.context)
+        places = self._join_places(added)
+        columns = [summaries.Column(self.right.fields()[place], chosen) for place in places]
+        fields = QgsFields()
+        for field in (field for column in columns for field in column.fields()):
+            fields.append(field)
+        fields = with_fields(QgsProcessingUtils.combineFields(self.left.fields(), fields),
+                             added.flags())
+        return self._output(fields, self.left.wkbType()), summaries.features(
+            added, attributes_of(added.right, places), columns, pairs, self.keeps_lonely)
 
     def _pairs_alone(self, added: JoinFields, pairs: Pairs
                      ) -> tuple[Output, Iterator[QgsFeature]]:
@@ -278,13 +346,11 @@ class _Run:
 
 def _common_system(left: QgsProcessingFeatureSource, right: QgsProcessingFeatureSource,
                    feedback: QgsProcessingFeedback) -> QgsCoordinateReferenceSystem:
-    """The reference system of both layers, or of the one that has one."""
+    """The reference system of the base layer, or of the join layer if that alone has one."""
     one, other = left.sourceCrs(), right.sourceCrs()
     if one.isValid() and other.isValid() and one != other:
-        raise QgsProcessingException(
-            f"The reference systems differ: {system_name(one)} of the base layer, and "
-            f"{system_name(other)} of the join layer. Reproject the join layer first, and give the "
-            "number of decimals to round to.")
+        feedback.pushInfo(f"The join layer is reprojected from {system_name(other)} to "
+                          f"{system_name(one)}, that of the base layer")
     system = one if one.isValid() else other
     if one.isValid() != other.isValid():
         without, other_one = ("join", "base") if one.isValid() else ("base", "join")

@@ -11,6 +11,8 @@ from typing import TYPE_CHECKING, Any, List, NamedTuple, Sequence, Set
 
 import numpy as np
 from qgis.core import (
+    QgsCoordinateReferenceSystem,
+    QgsCoordinateTransformContext,
     QgsFeature,
     QgsFeatureRequest,
     QgsGeometry,
@@ -61,6 +63,13 @@ class Rules(NamedTuple):
     decimals: int | None
 
 
+class System(NamedTuple):
+    """A reference system into which a layer is reprojected, by the transformations of a project."""
+
+    system: QgsCoordinateReferenceSystem
+    transforms: QgsCoordinateTransformContext
+
+
 class LeftOut(NamedTuple):
     """A feature that isn't in the result, and why."""
 
@@ -74,7 +83,7 @@ class Layer:
 
     The number of a feature, by which rjoin knows it, is its place in `features`, and that of its
     geometry in `columns`. `envelopes` has the numbers of those whose envelope stands in for their
-    shape.
+    shape. `is_reprojected` if it is read in another reference system than its own.
     """
 
     name: str
@@ -83,6 +92,7 @@ class Layer:
     parts: List[Columns] = field(default_factory=list)
     left_out: List[LeftOut] = field(default_factory=list)
     envelopes: Set[int] = field(default_factory=set)
+    is_reprojected: bool = False
 
     @cached_property
     def columns(self) -> Columns:
@@ -119,6 +129,17 @@ class Layer:
         self.columns = self.columns.chosen(stays)
         self.envelopes = {moved[number] for number in self.envelopes if stays[number]}
 
+    def round_to(self, decimals: int) -> None:
+        """Has the coordinates rounded; where that may leave a line or ring no length, all features
+        are read once more, since such a geometry is one that rjoin doesn't read."""
+        self.rules = self.rules._replace(decimals=decimals)
+        if not columns.may_be_points(self.columns, decimals):
+            return
+        features, self.features, self.envelopes = self.features, [], set()
+        del self.columns
+        for begin in range(0, len(features), BLOCK):
+            self.add(features[begin:begin + BLOCK])
+
     def add(self, features: List[QgsFeature]) -> None:
         """Takes features in or leaves them out."""
         wkbs = [feature.geometry().asWkb().data() for feature in features]
@@ -152,7 +173,8 @@ class Layer:
         """Takes a feature in or leaves it out, of which nothing is known."""
         try:
             if feature.geometry().isNull():
-                raise NotRead("no geometry")
+                raise NotRead("no geometry" + ", or one that can't be reprojected"
+                              * self.is_reprojected)
             try:
                 self._append([feature], columns.of_box(box_of(wkb)))
             except NotABox:
@@ -197,13 +219,17 @@ def _has_envelope(geometry: QgsGeometry) -> bool:
 
 
 def read_layer(source: QgsProcessingFeatureSource, name: str, rules: Rules,
-               feedback: QgsProcessingFeedback) -> Layer:
-    """Reads all features; the result is partial where the user has cancelled."""
-    layer = Layer(name, rules)
+               feedback: QgsProcessingFeedback, system: System | None = None) -> Layer:
+    """Reads all features, in another reference system than that of the source if one is given; the
+    result is partial where the user has cancelled."""
+    layer = Layer(name, rules, is_reprojected=system is not None)
+    request = QgsFeatureRequest()
+    if system is not None:
+        request.setDestinationCrs(system.system, system.transforms)
     count = max(source.featureCount(), 1)
     flags = QgsProcessingFeatureSource.FlagSkipGeometryValidityChecks  # `Layer` has its own
     waiting: List[QgsFeature] = []
-    for number, feature in enumerate(source.getFeatures(QgsFeatureRequest(), flags)):
+    for number, feature in enumerate(source.getFeatures(request, flags)):
         if number % CHECK_EVERY == 0:
             if feedback.isCanceled():
                 break
@@ -232,16 +258,21 @@ def tell(layer: Layer, has_list: bool, feedback: QgsProcessingFeedback) -> None:
     feedback.pushWarning(text)
 
 
-def common_decimals(layers: Sequence[Layer], given: int | None, feedback: QgsProcessingFeedback
-                    ) -> int:
-    """The decimals of a run: the given ones, else the fewest that write all exactly. What is out of
-    range with these is left out, or ends the run."""
+def common_decimals(layers: Sequence[Layer], given: int | None, feedback: QgsProcessingFeedback,
+                    most: int = units.MOST_DECIMALS) -> int:
+    """The decimals of a run: the given ones, else the fewest that write all exactly, or if these
+    are more than the range of the numbers allows, or than `most`, as many as are allowed.
+
+    What is out of range with them is left out, or ends the run, and all others are rounded.
+    """
     leave_out_far(layers, 0)
-    decimals = _fewest_decimals(layers) if given is None else given
+    decimals = _fewest_decimals(layers, most) if given is None else given
     leave_out_far(layers, decimals)
-    if given is not None:
-        for layer in layers:
-            _tell_rounded(layer, given, feedback)
+    for layer in layers:
+        places = units.rounded_places(layer.coordinates, decimals)
+        _tell_rounded(layer, places, decimals, feedback)
+        if places.size and given is None:
+            layer.round_to(decimals)
     feedback.pushInfo(f"Decimals of the coordinates: {decimals}")
     return decimals
 
@@ -267,17 +298,13 @@ def most_decimals(layers: Sequence[Layer]) -> int:
     return min(units.most_decimals(layer.coordinates) for layer in layers)
 
 
-def _fewest_decimals(layers: Sequence[Layer]) -> int:
-    """The fewest decimals that write the coordinates of all layers exactly."""
+def _fewest_decimals(layers: Sequence[Layer], most: int) -> int:
+    """The fewest decimals that write the coordinates of all layers exactly, or the most there may
+    be."""
     decimals = 0
     for layer in layers:
-        try:
-            decimals = units.fewest_decimals(layer.coordinates, decimals)
-        except units.CoordinateError as fault:
-            raise _fault_at(layer, fault.place,
-                            f"{fault}; give the parameter Decimals (DECIMALS) to round to, "
-                            f"at most {most_decimals(layers)}") from fault
-    return decimals
+        decimals = units.fewest_decimals(layer.coordinates, decimals)
+    return min(decimals, most, most_decimals(layers))
 
 
 def _fault_at(layer: Layer, place: int, text: str) -> QgsProcessingException:
@@ -287,8 +314,8 @@ def _fault_at(layer: Layer, place: int, text: str) -> QgsProcessingException:
         f"{layer.label(layer.features[number])}: coordinate {text}")
 
 
-def _tell_rounded(layer: Layer, decimals: int, feedback: QgsProcessingFeedback) -> None:
-    places = units.rounded_places(layer.coordinates, decimals)
+def _tell_rounded(layer: Layer, places: Places, decimals: int, feedback: QgsProcessingFeedback
+                  ) -> None:
     rounded = np.unique(layer.features_at(places))
     if rounded.size:
         feedback.pushWarning(f"{layer.name}: features with coordinates rounded to {decimals} "

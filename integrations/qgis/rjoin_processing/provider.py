@@ -5,6 +5,7 @@ from qgis.core import QgsProcessingProvider
 
 from .distance_algorithms import JoinNearest, JoinWithinDistance
 from .join_algorithm import JoinByRelation
+from .native_algorithms import JoinByLocation, JoinByLocationSummary, JoinByNearest
 from .statistics_algorithm import LayerStatistics
 from .window_algorithm import FeaturesInWindow
 
@@ -22,6 +23,6 @@ class RjoinProvider(QgsProcessingProvider):
         return "rjoin: exact spatial joins"
 
     def loadAlgorithms(self) -> None:  # noqa: N802 - the name is QGIS's
-        for algorithm in (JoinByRelation, JoinWithinDistance, JoinNearest, FeaturesInWindow,
-                          LayerStatistics):
+        for algorithm in (JoinByLocation, JoinByLocationSummary, JoinByNearest, JoinByRelation,
+                          JoinWithinDistance, JoinNearest, FeaturesInWindow, LayerStatistics):
             self.addAlgorithm(algorithm())

@@ -82,5 +82,6 @@ lists the features that rjoin can't read, and why.</p>""" + COMMON_HELP
             word, count = line.split()
             feedback.pushInfo(f"{COUNTS[word]}: {count}")
             results[word.upper()] = int(count)
-        results.update(self.write_left_out(parameters, "LEFT_OUT", context, source, layer))
+        results.update(self.write_left_out(parameters, "LEFT_OUT", context, source, layer,
+                                           source.sourceCrs()))
         return results

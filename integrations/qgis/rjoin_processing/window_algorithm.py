@@ -26,7 +26,6 @@ from .algorithm import (
     Steps,
     check_program,
     faults_shown,
-    system_name,
     with_fields,
 )
 from .answers import exact_field
@@ -58,10 +57,11 @@ class FeaturesInWindow(RjoinAlgorithm):
     def shortHelpString(self) -> str:  # noqa: N802 - the name is QGIS's
         return """<p>Extracts the features that share a point with a rectangle, its sides \
 included, as rjoin does, whose answer is proved.</p>
-<p>The window is in the reference system of the layer. A window that was drawn on the map has \
-more decimals than the layer has. For points, axis-parallel segments and rectangles alone it is \
-narrowed to the layer's decimals, which leaves the same features in it; else it is rounded to as \
-many decimals as rjoin can read, and the log says so.</p>""" + COMMON_HELP
+<p>A window of another reference system than that of the layer is reprojected to the rectangle \
+around it. A window that was drawn on the map has more decimals than the layer has. For points, \
+axis-parallel segments and rectangles alone it is narrowed to the layer's decimals, which leaves \
+the same features in it; else it is rounded to as many decimals as rjoin can read, and the log \
+says so.</p>""" + COMMON_HELP
 
     def initAlgorithm(self, _configuration: Any = None) -> None:  # noqa: N802
         self.addParameter(QgsProcessingParameterFeatureSource(
@@ -100,17 +100,12 @@ many decimals as rjoin can read, and the log says so.</p>""" + COMMON_HELP
                               source.wkbType())
         output.add(_chosen(layer, found, envelopes), lambda done: steps.check_cancelled())
         return {**output.result(), "COUNT": len(found),
-                **self.write_left_out(parameters, "LEFT_OUT", context, source, layer)}
+                **self.write_left_out(parameters, "LEFT_OUT", context, source, layer,
+                                      source.sourceCrs())}
 
     def _extent(self, parameters: Dict[str, Any], context: QgsProcessingContext,
                 source: QgsProcessingFeatureSource) -> QgsRectangle:
-        system = self.parameterAsExtentCrs(parameters, "WINDOW", context)
-        if system.isValid() and source.sourceCrs().isValid() and system != source.sourceCrs():
-            raise QgsProcessingException(
-                f"The reference systems differ: {system_name(system)} of the window, and "
-                f"{system_name(source.sourceCrs())} of the layer. Give the window in that of the "
-                "layer.")
-        extent = self.parameterAsExtent(parameters, "WINDOW", context)
+        extent = self.parameterAsExtent(parameters, "WINDOW", context, source.sourceCrs())
         if extent.isNull():
             raise QgsProcessingException("The window has no extent")
         return extent

@@ -8,6 +8,8 @@ from typing import Iterator, List, NamedTuple, Optional, Sequence
 
 from . import program
 from .layers import JoinError, Layer
+from .markers import Side
+from .report import Mark, Place
 
 RELATIONS = ("intersects", "touches", "crosses", "within", "contains", "overlaps", "equals",
              "covers", "covered_by", "contains_properly")
@@ -29,19 +31,14 @@ class Row(NamedTuple):
     text: str
 
 
-class Place(NamedTuple):
-    """A category of the report database, with its description."""
-
-    name: str
-    about: str
-
-
 class Condition(ABC):
     """A question to rjoin about two layers, and the places of its pairs in the database.
 
-    `title` names it between two layers, `columns` are those of the program's report.
+    `title` names it between two layers, `columns` are those of the program's report; the pairs are
+    sorted into categories by the last one, or not.
     """
 
+    is_sorted = False
     title: str
     about: str
     columns: Sequence[str]
@@ -62,9 +59,13 @@ class Condition(ABC):
         """The categories of a pair below that of the join."""
         return []
 
-    def values(self, _text: str) -> List[str]:
-        """More texts of a pair."""
-        return []
+    @abstractmethod
+    def values(self, row: Row, left: Side, right: Side) -> str:
+        """How a pair is shown: the values of its item."""
+
+    @abstractmethod
+    def marks(self, rows: Sequence[Row], left: Side, right: Side) -> List[Mark]:
+        """How all pairs are shown as shapes of a layer."""
 
 
 class Relation(Condition):
@@ -75,7 +76,7 @@ class Relation(Condition):
 
     def __init__(self, name: str, matrices: bool) -> None:
         self.title = name
-        self.matrices = matrices
+        self.is_sorted = matrices
         self.columns = (*IDS, "matrix") if matrices else IDS
         self.about = f"the left shape {name.replace('_', ' ')} the right one" if (
             name in RELATIONS) else f"the matrix fits {name}"
@@ -89,10 +90,20 @@ class Relation(Condition):
         return ["join", *self._asked()]
 
     def places(self, text: str) -> List[Place]:
-        return [Place(text, explained(text))] if self.matrices else []
+        return [Place(text, explained(text))] if self.is_sorted else []
+
+    def values(self, row: Row, left: Side, right: Side) -> str:
+        """Both shapes, and where they come from."""
+        one, other = left.values(row.left), right.values(row.right)
+        return one.marker + other.marker + one.origin + other.origin
+
+    def marks(self, rows: Sequence[Row], left: Side, right: Side) -> List[Mark]:
+        """The left shapes, each once."""
+        found = map(left.polygon, sorted({row.left for row in rows}))
+        return [polygon for polygon in found if polygon is not None]
 
     def _asked(self) -> List[str]:
-        return [f"--relation={self.title}", *["--pairs"] * (not self.matrices)]
+        return [f"--relation={self.title}", *["--pairs"] * (not self.is_sorted)]
 
 
 def explained(matrix: str) -> str:
@@ -123,6 +134,7 @@ class Space(Condition):
         if self.limit == 0:
             raise JoinError(f"space must be at least half a database unit, which is {self.unit:f} "
                             f"micrometres, not {text}")
+        self.micrometres = float(self.unit)
         self.title = f"closer than {space:f} um to"
         self.about = f"shapes that share no point and are closer than {space:f} um"
 
@@ -139,18 +151,25 @@ class Space(Condition):
         its distance is rounded. Where that is about the spacing, the gap decides of boxes, and the
         rounded distance of others. Of a layer with itself each pair is kept once."""
         left, right = layers
-        surely = self.limit - Decimal(1).scaleb(-self._decimals(layers))
         for row in rows:
             if left is right and row.left >= row.right:
                 continue
-            distance = Decimal(row.text)
-            if distance <= surely or _is_closer(left.box(row.left), right.box(row.right), distance,
-                                                self.limit):
+            if float(row.text) <= self.limit - 1 or _is_closer(
+                    left.box(row.left), right.box(row.right), Decimal(row.text), self.limit):
                 yield row
 
-    def values(self, text: str) -> List[str]:
-        distance = Decimal(text) * self.unit
-        return [f"distance: {distance.normalize():f} um"]
+    def values(self, row: Row, left: Side, right: Side) -> str:
+        """The narrow place as an edge pair, as DRC shows it, with its distance."""
+        narrow = left.narrow(row.left, right, row.right, float(row.text))
+        distance = Decimal(row.text) * self.unit
+        return (f"<value>edge-pair: {narrow.text(self.micrometres)}</value>"
+                f"{left.origin(row.left)}{right.origin(row.right)}"
+                f"<value>text: 'distance: {distance.normalize():f} um'</value>")
+
+    def marks(self, rows: Sequence[Row], left: Side, right: Side) -> List[Mark]:
+        """The edge pair of each pair."""
+        return [left.narrow(row.left, right, row.right, float(row.text)).edge_pair()
+                for row in rows]
 
     def _decimals(self, layers: Sequence[Layer]) -> int:
         """As many decimals as the program's range allows for the spacing and the layers."""

@@ -50,6 +50,9 @@ class JoinDialog(pya.QDialog):
         self.matrices.checked = True
         self.matrices.toolTip = "Without it, a join of other shapes than boxes takes less time"
         self.form.addRow(self.matrices)
+        self.layer = pya.QLineEdit(self)
+        self.layer.toolTip = "Such as 100/0: the narrow places of a spacing, or the left shapes"
+        self.form.addRow("Also as shapes in the layer", self.layer)
         self.buttons = pya.QDialogButtonBox(self)
         self.buttons.standardButtons = pya.QDialogButtonBox.Ok | pya.QDialogButtonBox.Cancel
         self.buttons.accepted(self.accept)
@@ -62,7 +65,8 @@ class JoinDialog(pya.QDialog):
         return Request(self.left.currentText, self.right.currentText,
                        "" if space else self.relation.currentText, space,
                        Reading(CHOICES[self.others.currentText], self.merged.checked,
-                               MODES[self.mode.currentText]), self.matrices.checked)
+                               MODES[self.mode.currentText]), self.matrices.checked,
+                       self.layer.text.strip())
 
     def _choice(self, label: str, texts: Sequence[str]) -> pya.QComboBox:
         box = pya.QComboBox(self)
@@ -94,6 +98,8 @@ def show(view: pya.LayoutView, request: Request) -> int:
     """Joins, puts the pairs into the view and opens the marker browser; answers their number."""
     cellview = view.active_cellview()
     database = join_layers(cellview.layout(), cellview.cell, request).database()
+    if request.layer:
+        view.add_missing_layers()
     index = view.add_rdb(database)
     view.show_rdb(index, view.active_cellview_index())
     return int(database.num_items())

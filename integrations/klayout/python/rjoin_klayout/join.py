@@ -1,18 +1,18 @@
 """Joins two layers below a cell and reports the pairs."""
 from __future__ import annotations
 
-import csv
 import tempfile
 from pathlib import Path
-from typing import Dict, Iterator, List, NamedTuple, Sequence, Tuple
+from typing import Dict, Iterator, List, NamedTuple, Sequence
 
 import pya
 
 from . import program
-from .conditions import Condition, Place, Relation, Row, Space
+from .conditions import Condition, Relation, Row, Space
 from .layers import (
     CELL,
     ENVELOPE,
+    GEOMETRY,
     MODES,
     OTHERS,
     JoinError,
@@ -20,8 +20,10 @@ from .layers import (
     Reading,
     layer_index,
     read_layer,
+    result_layer,
 )
-from .report import Category, Report, Side, marker_of, text_value
+from .markers import Side, marker_of
+from .report import Category, Place, Report, text_value
 
 EXACT, INEXACT = text_value("exact: true"), text_value("exact: false")
 
@@ -31,7 +33,8 @@ class Request(NamedTuple):
 
     A layer is named as KLayout names it: `1/0`, `METAL`, `METAL (1/0)`. The condition is either a
     relation, by its name or a mask of nine letters, or a spacing, in micrometres. `matrices` sorts
-    the pairs of a relation by their matrices.
+    the pairs of a relation by their matrices. `layer` names the layer, by its numbers or a name,
+    into which the result is put as shapes, if it is given.
     """
 
     left: str
@@ -40,6 +43,7 @@ class Request(NamedTuple):
     space: str = ""
     reading: Reading = Reading()
     matrices: bool = True
+    layer: str = ""
 
     def condition(self, dbu: float) -> Condition:
         """The condition, for a layout with this database unit."""
@@ -49,7 +53,15 @@ class Request(NamedTuple):
 
 
 def join_layers(layout: pya.Layout, cell: pya.Cell, request: Request) -> Report:
-    """The pairs, and the shapes that were left out.
+    """The pairs below a cell, and the shapes that were left out.
+
+    Raises JoinError or ProgramError where the join can't be done.
+    """
+    return join_cells(layout, [cell], request)
+
+
+def join_cells(layout: pya.Layout, tops: Sequence[pya.Cell], request: Request) -> Report:
+    """The pairs below each of some cells by itself, in one report.
 
     Raises JoinError or ProgramError where the join can't be done.
     """
@@ -59,19 +71,24 @@ def join_layers(layout: pya.Layout, cell: pya.Cell, request: Request) -> Report:
             raise JoinError(f"{name} must be one of {', '.join(choices)}")
     condition = request.condition(layout.dbu)
     condition.check()
-    join = _Join(layout, cell, request, condition)
+    target = result_layer(layout, request.layer) if request.layer else None
+    join = _Join(layout, tops, request, condition)
     with tempfile.TemporaryDirectory(prefix="rjoin-") as folder:
-        for one in _cells(layout, cell, request):
+        for one in _cells(layout, tops, request):
             join.add(one, Path(folder))
     join.report.description = join.description()
+    if target is not None:
+        join.report.insert(layout, target)
     return join.report
 
 
-def _cells(layout: pya.Layout, cell: pya.Cell, request: Request) -> Iterator[pya.Cell]:
-    """The cell alone, or with all that it calls."""
-    yield cell
+def _cells(layout: pya.Layout, tops: Sequence[pya.Cell], request: Request) -> Iterator[pya.Cell]:
+    """The cells alone, or with all that they call, each once."""
+    found = {top.cell_index(): top for top in tops}
     if request.reading.mode == CELL:
-        yield from map(layout.cell, cell.called_cells())
+        for top in tops:
+            found.update((index, layout.cell(index)) for index in top.called_cells())
+    return iter(found.values())
 
 
 def _placements(layout: pya.Layout, top: pya.Cell) -> Dict[int, pya.DCplxTrans]:
@@ -88,8 +105,8 @@ def _placements(layout: pya.Layout, top: pya.Cell) -> Dict[int, pya.DCplxTrans]:
 class _Join:
     """A join, cell by cell, and its report."""
 
-    def __init__(self, layout: pya.Layout, top: pya.Cell, request: Request, condition: Condition
-                 ) -> None:
+    def __init__(self, layout: pya.Layout, tops: Sequence[pya.Cell], request: Request,
+                 condition: Condition) -> None:
         self.layout = layout
         self.request = request
         self.condition = condition
@@ -98,18 +115,19 @@ class _Join:
             title += ", merged"
         if request.reading.mode == CELL:
             title += ", by cells"
-        self.report = Report(title, top.name)
+        self.report = Report(title, [top.name for top in tops])
         self.about = Place(title, condition.about)
         self.pairs = 0
         self.replaced = {request.left: 0, request.right: 0}
         self.left_out = {request.left: 0, request.right: 0}
-        self.placements = _placements(layout, top) if request.reading.mode == CELL else {}
+        if request.reading.mode == CELL:
+            for top in tops:
+                for index, trans in _placements(layout, top).items():
+                    self.report.add_cell(layout.cell(index).name, top.name, trans)
 
     def add(self, cell: pya.Cell, folder: Path) -> None:
         """Joins the layers of a cell."""
         layers = self._read(cell)
-        if cell.cell_index() in self.placements:
-            self.report.add_cell(cell.name, self.placements[cell.cell_index()])
         if all(layer.count() for layer in layers):
             self._add_pairs(cell, layers, self._run(layers, folder))
         for layer in layers[:1] if layers[0] is layers[1] else layers:
@@ -133,6 +151,7 @@ class _Join:
         else:
             right.write(paths[1])
         command, *words = self.condition.words(layers)
+        words += ["--columns", GEOMETRY]
         if not all(layer.is_of_boxes() for layer in layers):
             words += ["--geometry", "any", "--rings", "even-odd"]
         report = folder / "report.csv"
@@ -143,26 +162,21 @@ class _Join:
         left, right = (Side(layer, title, self.layout.dbu)
                        for layer, title in zip(layers, ("left", "right")))
         has_exact = self.request.reading.others == ENVELOPE
-        places: Dict[str, Tuple[Category, str]] = {}
-        for row in self.condition.kept(rows, layers):
-            place = places.get(row.text)
-            if place is None:
-                place = places[row.text] = self._place_of(row.text)
-            category, more = place
+        categories: Dict[str, Category] = {}
+        kept = list(self.condition.kept(rows, layers))
+        for row in kept:
+            word = row.text if self.condition.is_sorted else ""
+            if word not in categories:
+                categories[word] = self.report.category(self.about, *self.condition.places(word))
+            values = self.condition.values(row, left, right)
             if has_exact:
                 by_box = row.left in left.layer.envelopes or row.right in right.layer.envelopes
                 self.report.inexact += by_box
-                more += INEXACT if by_box else EXACT
-            one, other = left.values(row.left), right.values(row.right)
-            self.report.add(category, cell.name,
-                            one.marker + other.marker + one.origin + other.origin + more)
-            self.pairs += 1
-
-    def _place_of(self, text: str) -> Tuple[Category, str]:
-        """The category of a pair by its matrix or distance, and the values that show these."""
-        places = [self.about, *self.condition.places(text)]
-        values = map(text_value, self.condition.values(text))
-        return self.report.category(*places), "".join(values)
+                values += INEXACT if by_box else EXACT
+            self.report.add(categories[word], cell.name, values)
+        self.pairs += len(kept)
+        if self.request.layer:
+            self.report.marks[cell.name] = self.condition.marks(kept, left, right)
 
     def _add_left_out(self, cell: pya.Cell, layer: Layer) -> None:
         self.replaced[layer.name] += len(layer.envelopes)
@@ -190,9 +204,10 @@ class _Join:
 
 
 def _rows(report: Path, columns: Sequence[str]) -> Iterator[Row]:
-    with open(report, encoding="ascii", newline="") as file:
-        rows = csv.reader(file)
-        if next(rows, None) != list(columns):
+    """The rows of the program's report, whose ids count from 1."""
+    with open(report, encoding="ascii") as file:
+        if next(file, None) != ",".join(columns) + "\n":
             raise program.ProgramError(f"{program.find_program()} wrote no report")
-        for left, right, *text in rows:
-            yield Row(int(left), int(right), "".join(text))
+        for line in file:
+            left, right, *text = line[:-1].split(",")
+            yield Row(int(left) - 1, int(right) - 1, "".join(text))

@@ -1,6 +1,7 @@
 """The shapes of a layer of a layout, drawn or merged, as rjoin joins them."""
 from __future__ import annotations
 
+import re
 from dataclasses import dataclass, field
 from pathlib import Path
 from typing import List, NamedTuple, Optional, Set, Tuple
@@ -11,18 +12,22 @@ from .shapes import (
     Bounds,
     Geometry,
     NotRead,
+    Rectangles,
     area_of,
-    bounds_of,
     envelope_of,
     geometry_of,
     geometry_of_merged,
     merged_areas,
     merged_wkt,
+    rectangles_of,
     texts_of,
 )
 
 # Texts, edges, points and all other kinds of shapes that cover no area.
 OTHER_KINDS = pya.Shapes.SAll & ~(pya.Shapes.SBoxes | pya.Shapes.SPolygons | pya.Shapes.SPaths)
+NUMBERS = re.compile(r"(\d+)/(\d+)")
+# The column of the files that are written.
+GEOMETRY = "wkt"
 ERROR, ENVELOPE, SKIP = OTHERS = ("error", "envelope", "skip")
 FLAT, CELL = MODES = ("flat", "cell")
 
@@ -79,7 +84,7 @@ class Layer:
     name: str
     cell: str
     reach: int
-    rectangles: List[Bounds] = field(default_factory=list)
+    rectangles: Rectangles = field(default_factory=Rectangles)
     areas: List[str] = field(default_factory=list)
     drawn: List[Placed] = field(default_factory=list)
     left_out: List[LeftOut] = field(default_factory=list)
@@ -101,6 +106,11 @@ class Layer:
             return Placed(geometry_of_merged(text), self.cell, None)
         return self.drawn[number - self.merged_count()]
 
+    def area(self, number: int) -> Optional[str]:
+        """The text of a merged area that is no rectangle."""
+        is_area = len(self.rectangles) <= number < self.merged_count()
+        return self.areas[number - len(self.rectangles)] if is_area else None
+
     def box(self, number: int) -> Optional[Bounds]:
         """The bounds of a shape that is a box."""
         if number < len(self.rectangles):
@@ -116,16 +126,12 @@ class Layer:
         return not self.areas and all(placed.geometry.is_box() for placed in self.drawn)
 
     def write(self, path: Path) -> None:
-        """Writes the geometries in database units, with their numbers as ids."""
+        """Writes the geometries in database units, one a row; their ids are the rows' numbers."""
         with open(path, "w", encoding="ascii", newline="\n") as file:
-            file.write("id,wkt\n")
-            file.writelines(
-                f'{number},"POLYGON(({x1} {y1},{x2} {y1},{x2} {y2},{x1} {y2},{x1} {y1}))"\n'
-                for number, (x1, y1, x2, y2) in enumerate(self.rectangles))
-            file.writelines(f'{number},"{merged_wkt(text)}"\n'
-                            for number, text in enumerate(self.areas, len(self.rectangles)))
-            file.writelines(f'{number},"{placed.geometry.wkt()}"\n'
-                            for number, placed in enumerate(self.drawn, self.merged_count()))
+            file.write(f"{GEOMETRY}\n")
+            file.writelines(self.rectangles.lines())
+            file.writelines(f'"{merged_wkt(text)}"\n' for text in self.areas)
+            file.writelines(f'"{placed.geometry.wkt()}"\n' for placed in self.drawn)
 
 
 def read_layer(layout: pya.Layout, cell: pya.Cell, name: str, reading: Reading) -> Layer:
@@ -212,7 +218,7 @@ def _add_other(layer: Layer, placed: Placed, name: str, reason: str, others: str
 def _add_merged(layer: Layer, areas: pya.Region) -> None:
     """Adds merged areas, before the shapes that are drawn."""
     merged = merged_areas(areas)
-    layer.rectangles = bounds_of(merged.rectangles())
+    layer.rectangles = rectangles_of(merged.rectangles())
     layer.areas = texts_of(merged.non_rectangles())
     layer.envelopes = {layer.merged_count() + number for number in layer.envelopes}
 
@@ -228,6 +234,16 @@ def layer_index(layout: pya.Layout, name: str) -> int:
         if name and name in (str(info), info.name, "" if info.is_named() else numbers):
             return int(index)
     raise JoinError(f"the layout has no layer {name!r}")
+
+
+def result_layer(layout: pya.Layout, name: str) -> int:
+    """The index of the layer of a name or of numbers, which is made if it isn't there."""
+    try:
+        return layer_index(layout, name)
+    except JoinError:
+        numbers = NUMBERS.fullmatch(name)
+        info = pya.LayerInfo(*map(int, numbers.groups())) if numbers else pya.LayerInfo(name)
+        return int(layout.layer(info))
 
 
 def layer_names(layout: pya.Layout) -> List[str]:

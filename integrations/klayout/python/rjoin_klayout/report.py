@@ -6,14 +6,10 @@ import tempfile
 from dataclasses import dataclass, field
 from functools import lru_cache
 from pathlib import Path
-from typing import Dict, Iterator, List, NamedTuple, TextIO, Tuple
+from typing import Dict, Iterator, List, NamedTuple, Sequence, TextIO, Tuple, Union
 from xml.sax.saxutils import escape
 
 import pya
-
-from .conditions import Place
-from .layers import Layer, Placed, origin_of
-from .shapes import Bounds
 
 WORD = re.compile(r"[A-Za-z_][A-Za-z0-9_]*")
 STATE = "<visited>false</visited><multiplicity>1</multiplicity><image/>"
@@ -38,53 +34,23 @@ def text_value(text: str) -> str:
     return f"<value>{escape('text: ' + quoted(text))}</value>"
 
 
-def marker_of(placed: Placed, dbu: float) -> str:
-    """A shape as a value of an item, in micrometres: a segment is an edge."""
-    figure = placed.geometry.figure
-    scaled = figure.to_dtype(dbu)
-    if isinstance(figure, pya.Box) and (figure.width() == 0) != (figure.height() == 0):
-        scaled = pya.DEdge(scaled.p1, scaled.p2)
-    elif isinstance(figure, pya.Path) and figure.num_points() == 2:
-        scaled = pya.DEdge(*scaled.each_point())
-    return f"<value>{escape(pya.RdbItemValue(scaled).to_s())}</value>"
+Mark = Union[pya.EdgePair, pya.Polygon]
 
 
-def rectangle_marker(bounds: Bounds, dbu: float) -> str:
-    """A rectangle as a value of an item, in micrometres."""
-    left, bottom, right, top = bounds
-    return (f"<value>box: ({left * dbu:.12g},{bottom * dbu:.12g};"
-            f"{right * dbu:.12g},{top * dbu:.12g})</value>")
+def polygon_of(mark: Mark) -> pya.Polygon:
+    """What lies between the two edges of an edge pair, at least a database unit wide, or the
+    polygon."""
+    if isinstance(mark, pya.Polygon):
+        return mark
+    between = mark.polygon(0)
+    return between if between.area2() > 0 else mark.polygon(1)
 
 
-class Values(NamedTuple):
-    """The marker of a shape, and the cell that it comes from, as values of an item."""
+class Place(NamedTuple):
+    """A category of the report database, with its description."""
 
-    marker: str
-    origin: str
-
-
-class Side:
-    """The values of the shapes of a layer; each is written once, in however many pairs it is."""
-
-    def __init__(self, layer: Layer, title: str, dbu: float) -> None:
-        self.layer = layer
-        self.title = title
-        self.dbu = dbu
-        self.merged = text_value(f"{title}: {origin_of(layer.cell, None)}")
-        self.known: Dict[int, Values] = {}
-
-    def values(self, number: int) -> Values:
-        """The values of a shape."""
-        values = self.known.get(number)
-        if values is None:
-            values = self.known[number] = self._values(number)
-        return values
-
-    def _values(self, number: int) -> Values:
-        if number < len(self.layer.rectangles):
-            return Values(rectangle_marker(self.layer.rectangles[number], self.dbu), self.merged)
-        placed = self.layer.placed(number)
-        return Values(marker_of(placed, self.dbu), text_value(f"{self.title}: {placed.origin()}"))
+    name: str
+    about: str
 
 
 @dataclass
@@ -121,21 +87,23 @@ class Category:
 class Report:
     """Items by category and cell, which are written as a file or become a database.
 
-    `inexact` is the number of those that rest on a bounding box.
+    `inexact` is the number of those that rest on a bounding box; `marks` has the result as shapes,
+    by the cells that it is to be put into.
     """
 
-    def __init__(self, title: str, top: str) -> None:
+    def __init__(self, title: str, tops: Sequence[str]) -> None:
         self.title = title
-        self.top = top
+        self.top = tops[0]
         self.description = ""
         self.root = Category(Place("", ""), "")
-        self.cells: Dict[str, str] = {top: ""}
+        self.cells: Dict[str, str] = dict.fromkeys(tops, "")
         self.items: List[str] = []
         self.inexact = 0
+        self.marks: Dict[str, List[Mark]] = {}
 
-    def add_cell(self, name: str, trans: pya.DCplxTrans) -> None:
-        """Adds a cell, with a place where it lies in the top cell."""
-        self.cells.setdefault(name, f"<ref><parent>{escape(self.top)}</parent>"
+    def add_cell(self, name: str, top: str, trans: pya.DCplxTrans) -> None:
+        """Adds a cell, with a place where it lies in a top cell."""
+        self.cells.setdefault(name, f"<ref><parent>{escape(top)}</parent>"
                                     f"<trans>{escape(str(trans))}</trans></ref>")
 
     def category(self, *places: Place) -> Category:
@@ -171,6 +139,12 @@ class Report:
             file.write("</cells>\n<items>\n")
             file.writelines(self.items)
             file.write("</items>\n</report-database>\n")
+
+    def insert(self, layout: pya.Layout, layer: int) -> None:
+        """Puts the result into a layer, as polygons."""
+        for name, marks in self.marks.items():
+            polygons = [polygon_of(mark) for mark in marks]
+            layout.cell(name).shapes(layer).insert(pya.Region(polygons))
 
     def database(self) -> pya.ReportDatabase:
         """The database for a view."""

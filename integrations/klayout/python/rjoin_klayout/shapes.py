@@ -1,10 +1,11 @@
 """The geometry of a shape of a layout, in database units of the top cell, as rjoin reads it."""
 from __future__ import annotations
 
-import struct
+import sys
 import tempfile
+from array import array
 from pathlib import Path
-from typing import Iterator, List, NamedTuple, Optional, Tuple, Union, cast
+from typing import Iterator, List, NamedTuple, Optional, Tuple, Union
 
 import pya
 
@@ -15,13 +16,39 @@ Figure = Union[pya.Box, pya.Path, pya.Polygon]
 Bounds = Tuple[int, int, int, int]
 
 # A rectangle in a GDS2 stream: the records BOUNDARY, LAYER, DATATYPE, XY with five points, and
-# ENDEL. Its first point is the least corner, and the third one the greatest.
+# ENDEL, in words of four bytes, the most significant first. Its first point is the least corner,
+# and the third one the greatest; the places of their coordinates are:
 BOUNDARY = b"\x00\x04\x08\x00"
-RECTANGLE = struct.Struct(">20x2i8x2i16x4x")
+WORDS, WEST, SOUTH, EAST, NORTH = 16, 5, 6, 9, 10
+RECTANGLE_LINE = '"POLYGON((%d %d,%d %d,%d %d,%d %d,%d %d))"\n'
 
 
 class NotRead(ValueError):
     """rjoin doesn't read the shape; the text says why."""
+
+
+class Rectangles:
+    """Rectangles by columns of their least and their greatest coordinates."""
+
+    def __init__(self, stream: bytes = b"") -> None:
+        """The rectangles of a part of a GDS2 stream."""
+        words = array("i", stream)
+        if sys.byteorder == "little":
+            words.byteswap()
+        self.columns = [words[place::WORDS] for place in (WEST, SOUTH, EAST, NORTH)]
+
+    def __len__(self) -> int:
+        return len(self.columns[0])
+
+    def __getitem__(self, number: int) -> Bounds:
+        west, south, east, north = self.columns
+        return west[number], south[number], east[number], north[number]
+
+    def lines(self) -> Iterator[str]:
+        """The lines of a file of their well-known texts."""
+        west, south, east, north = self.columns
+        return map(RECTANGLE_LINE.__mod__, zip(west, south, east, south, east, north, west, north,
+                                               west, south))
 
 
 class Geometry(NamedTuple):
@@ -119,8 +146,8 @@ def _closed(points: str) -> str:
     return f"({points},{points.partition(',')[0]})"
 
 
-def bounds_of(rectangles: pya.Region) -> List[Bounds]:
-    """The bounds of a region's rectangles.
+def rectangles_of(rectangles: pya.Region) -> Rectangles:
+    """The rectangles of a region.
 
     They are read from a GDS2 stream, which KLayout writes in less time than it answers calls for
     each of them.
@@ -134,8 +161,7 @@ def bounds_of(rectangles: pya.Region) -> List[Bounds]:
         layout.write(str(path), options)
         stream = path.read_bytes()
     start = stream.find(BOUNDARY)
-    records = memoryview(stream)[start:start + rectangles.count() * RECTANGLE.size]
-    return cast(List[Bounds], list(RECTANGLE.iter_unpack(records)))
+    return Rectangles(stream[start:start + rectangles.count() * WORDS * len(BOUNDARY)])
 
 
 def envelope_of(shape: pya.Shape, trans: pya.ICplxTrans) -> pya.Box:
