@@ -65,7 +65,7 @@ above_off g p good wide off =
     ∙ sym (off_part-is g p good off)
 
 -- edges of which one lies on one side of the other's line share no point
-aside_clear : (e f : Edge) (p : Point) → HasLength e → HasLength f → 0 < p.w → are_aside e f ≡ true → is_on e p ≡ true → is_on f p ≡ true → ⊥
+pub aside_clear : (e f : Edge) (p : Point) → HasLength e → HasLength f → 0 < p.w → are_aside e f ≡ true → is_on e p ≡ true → is_on f p ≡ true → ⊥
 aside_clear e f p long_e long_f wide h on_e on_f = by_test (is_aside e f)
     (λ yes. aside_apart e f p long_f wide yes on_e on_f)
     (λ no. aside_apart f e p long_e wide (other (is_aside e f) (is_aside f e) h no) on_f on_e)
@@ -74,7 +74,7 @@ aside_clear e f p long_e long_f wide h on_e on_f = by_test (is_aside e f)
     other true u h k = cc
     other false u h k = h
 
-each_holds : (q : Edge → Bool) (xs : List Edge) (x : Edge) → list_all q xs ≡ true → IsAmong x xs → q x ≡ true
+pub each_holds : (q : Edge → Bool) (xs : List Edge) (x : Edge) → list_all q xs ≡ true → IsAmong x xs → q x ≡ true
 each_holds q [] x h k = absurd k
 each_holds q (y ∷ ys) x h (inl is) = ap q is ∙ first (q y) (list_all q ys) h
   where

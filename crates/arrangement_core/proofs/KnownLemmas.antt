@@ -29,7 +29,7 @@ use Rattle.shown_core.specs.Shown.{is_along, AreCuts}
 use Rattle.shown_core.specs.Beyond.{IsBounded, has_no_end, parts_along, IsEdgeShown}
 use Rattle.noding_core.specs.Near.{IsFound}
 use Rattle.shown_core.specs.Lying.{LiesIn}
-use Rattle.arrangement_core.specs.Known.{part_along, is_touched, parts_met, parts_passed, IsAllShown}
+use Rattle.arrangement_core.specs.Known.{part_along, is_touched, parts_met, parts_passed, IsAllShown, IsPartFull}
 use Rattle.noding_core.proofs.AmongLemmas.{among_either, count_none}
 use Rattle.noding_core.proofs.NodeLemmas.{all_among, gap_first, gap_second, gap_order}
 use Rattle.noding_core.proofs.PathLemmas.{IsOffEnds, ends_none}
@@ -159,6 +159,35 @@ part_adds_none m own other es vs e part lies shown one long =
       nodes = λ p of_p. weaker _ (part_line m own other e part p lies shown one of_p);
       pieces = λ p q gap. part_line m own other e part (middle p q) lies shown one (gap_point e n.nodes p q long n.are.points gap);
       faces = λ p q gap slanted. part_face m own other e part (middle p q) lies shown slanted (gap_point e n.nodes p q long n.are.points gap);
+    })
+
+-- an edge in a part of which each entry has the greatest extent
+full_rank : (m : Matrix) (part i : Part) → IsPartFull m part → 3 ≤ rank (entry m i part)
+full_rank m part Interior full = subst (λ (x : Extent). 3 ≤ rank x) (sym full.interior) (omega arith)
+full_rank m part Boundary full = subst (λ (x : Extent). 3 ≤ rank x) (sym full.boundary) (omega arith)
+full_rank m part Exterior full = subst (λ (x : Extent). 3 ≤ rank x) (sym full.exterior) (omega arith)
+
+full_line : (m : Matrix) (own other : Outline) (e : Edge) (part : Part) (p : Point) → LiesIn other e part → IsPartFull m part → IsPointOf e p
+    → 2 ≤ rank (entry m (outline_part own p) (outline_part other p))
+full_line m own other e part p lies full of_p =
+    subst (λ (j : Part). 2 ≤ rank (entry m (outline_part own p) j)) (sym (lies.on p of_p.wide of_p.on)) (less _ (full_rank m part (outline_part own p) full))
+  where
+    less : (r : ℕ) → 3 ≤ r → 2 ≤ r
+    less r h = omega arith
+
+full_face : (m : Matrix) (own other : Outline) (e : Edge) (part : Part) (p : Point) → LiesIn other e part → IsPartFull m part → IsPointOf e p
+    → 3 ≤ rank (entry m (outline_above own p) (outline_above other p))
+full_face m own other e part p lies full of_p =
+    subst (λ (j : Part). 3 ≤ rank (entry m (outline_above own p) j)) (sym (lies.above p of_p.wide of_p.on)) (full_rank m part (outline_above own p) full)
+
+pub full_adds_none : (m : Matrix) (own other : Outline) (es : List Edge) (vs : List Vertex) (e : Edge) (part : Part) → LiesIn other e part → IsPartFull m part
+    → HasLength e → IsEdgeMarked own other es vs e m m
+full_adds_none m own other es vs e part lies full long =
+    let n = nodes_exist es vs e long in
+    adds_none m own other es vs e n.nodes n.are (record {
+      nodes = λ p of_p. weaker _ (full_line m own other e part p lies full of_p);
+      pieces = λ p q gap. full_line m own other e part (middle p q) lies full (gap_point e n.nodes p q long n.are.points gap);
+      faces = λ p q gap slanted. full_face m own other e part (middle p q) lies full (gap_point e n.nodes p q long n.are.points gap);
     })
 
 -- the parts of a point of an edge in the other geometry

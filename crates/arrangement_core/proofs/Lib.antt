@@ -1,6 +1,7 @@
 pub mod AcrossLemmas
 pub mod AroundLemmas
 pub mod AskedLemmas
+pub mod BesideLemmas
 pub mod ClearLemmas
 pub mod CrossedLemmas
 pub mod KnownLemmas

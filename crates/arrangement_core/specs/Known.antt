@@ -1,18 +1,18 @@
 -- What a matrix has of an edge, whichever parts of the other geometry the edge passes.
 use Rattle.std.specs.Prelude.{◌≡◌, ◌≢◌, Bool, true, false, ◌||◌, List}
 use Rattle.std.specs.List.{list_any}
-use Rattle.relation_core.specs.declared.extent.Extent.TheVariants.{Point as Dot, Line}
+use Rattle.relation_core.specs.declared.extent.Extent.TheVariants.{Point as Dot, Line, Area}
 use Rattle.relation_core.specs.declared.part.Parts.{Parts}
 use Rattle.relation_core.specs.declared.matrix.Matrix.{Matrix}
 use Rattle.plane_core.specs.declared.part.Part.{Part}
-use Rattle.plane_core.specs.declared.part.Part.TheVariants.{Interior, Boundary}
+use Rattle.plane_core.specs.declared.part.Part.TheVariants.{Interior, Boundary, Exterior}
 use Rattle.plane_core.specs.declared.edge.Edge.{Edge}
 use Rattle.plane_core.specs.declared.outline.Kind.{Kind}
 use Rattle.plane_core.specs.declared.outline.Kind.TheVariants.{Points as Dots}
 use Rattle.plane_core.specs.declared.outline.Kind.TheVariants.{Lines as Polylines, Areas as Rings}
 use Rattle.plane_core.specs.declared.outline.Outline.{Outline}
 use Rattle.plane_core.specs.Points.{at, is_on}
-use Rattle.plane_core.specs.PlaneMatrices.{pick}
+use Rattle.plane_core.specs.PlaneMatrices.{pick, entry}
 use Rattle.shown_core.specs.Beyond.{has_no_end}
 use Rattle.shown_core.specs.Shown.{AreShown, IsFaceShown}
 
@@ -37,6 +37,12 @@ abbrev pub parts_passed : Kind → Parts Bool
 parts_passed Dots = record { interior = true; boundary = true; exterior = true }
 parts_passed Polylines = record { interior = false; boundary = false; exterior = true }
 parts_passed Rings = record { interior = true; boundary = false; exterior = true }
+
+-- each entry of a part of the other geometry has the greatest extent
+pub record IsPartFull (m : Matrix) (part : Part) : Type 0 where
+  pub interior : entry m Interior part ≡ Area
+  pub boundary : entry m Boundary part ≡ Area
+  pub exterior : entry m Exterior part ≡ Area
 
 -- the matrix has all that an edge can show that runs along none of the other geometry, whose edges
 -- near it are given

@@ -12,7 +12,7 @@ ghost use Rattle.plane_core.specs.Outlines.{outline_part};
 ghost use Rattle.shown_core.specs.Beyond.{IsBounded};
 ghost use Rattle.arrangement_core.specs.Aside.{are_aside};
 ghost use Rattle.arrangement_core.specs.Known.{part_along, parts_met, parts_passed, is_touched};
-ghost use Rattle.arrangement_core.specs.Known.{IsAllShown};
+ghost use Rattle.arrangement_core.specs.Known.{IsAllShown, IsPartFull};
 ghost use Rattle.noding_core.specs.Near.{IsFound};
 ghost use Rattle.shown_core.specs.Lying.{IsKnownIn, LiesIn};
 ghost use Rattle.arrangement_core.specs.Seen.{IsSeen, IsSeenAlong};
@@ -20,8 +20,10 @@ ghost use Rattle.noding_core.specs.ReadOffs.{outline_edges, IsOneOf, IsEdgeMarke
 ghost use Rattle.shown_core.specs.Shown.{IsKnownApart};
 
 use crate::aside::is_aside_of_all;
+use crate::asked::pick;
 use crate::outside::is_outside;
 use crate::pair::Pair;
+use crate::walk::is_of_lines;
 use edge_index_core::IndexedOutline;
 use noding_core::row_of;
 use plane_core::{Edge, Kind, Part, Place, Vertex};
@@ -69,6 +71,26 @@ fn is_clear(kind: Kind, e: &Edge, near: &[Edge]) -> bool
     kind != Kind::Points && is_aside_of_all(e, near)
 }
 
+/// The part of the second geometry in which an edge lies, if it shares no point with the edges of
+/// that geometry near it. In polylines this is the exterior, and else the part of its first end.
+fn clear_part(pair: &Pair, e: &Edge, near: &[Edge], seen: Option<Seen>) -> Option<Part>
+    requires bounded { IsBounded pair.now.second.now pair.now.second_box }
+    requires long { HasLength e.now }
+    requires found { All (IsFound e.now near.now) pair.now.second.now.edges.items }
+    requires seen { IfSome seen (IsSeen pair.now.second.now) }
+    ensures { IfSome result (LiesIn pair.now.second.now e.now) }
+{
+    let outline = pair.second.outline();
+    if !is_clear(outline.kind, e, near) {
+        return None;
+    }
+    if is_of_lines(pair.second) {
+        return Some(Part::Exterior);
+    }
+    let part = part_from(pair, &e.a, seen);
+    Some(part)
+}
+
 /// Whether a geometry consists of points, and none of them is on an edge, so that the edge lies in
 /// its exterior.
 fn is_off_points(other: &IndexedOutline, e: &Edge) -> bool
@@ -86,9 +108,7 @@ pub(crate) fn seen_along(pair: &Pair, e: &Edge, near: &[Edge], seen: Option<Seen
     requires seen { IfSome seen (IsSeen pair.now.second.now) }
     ensures { IfSome result (IsSeenAlong pair.now.second.now e.now) }
 {
-    let outline = pair.second.outline();
-    if is_clear(outline.kind, e, near) {
-        let part = part_from(pair, &e.a, seen);
+    if let Some(part) = clear_part(pair, e, near, seen) {
         Some(Seen { vertex: e.b, part })
     } else if is_off_points(pair.second, e) {
         Some(Seen {
@@ -171,6 +191,17 @@ fn is_all_shown(
     are_shown(&row, &parts_met(other_kind, e, near), Extent::Point)
 }
 
+/// Whether each entry of a part of the other geometry has the greatest extent, as where no mask
+/// asks for any of them.
+fn is_part_full(matrix: &Matrix, part: Part) -> bool
+    ensures { IsTrue result → IsPartFull matrix.now part }
+{
+    let rows = &matrix.rows;
+    pick(&rows.interior, part) == Extent::Area
+        && pick(&rows.boundary, part) == Extent::Area
+        && pick(&rows.exterior, part) == Extent::Area
+}
+
 /// The part that is seen, if one is.
 pub(crate) fn part_seen(seen: Option<Seen>) -> Option<Part>
     ensures { (o : Outline) (e : Edge)
@@ -196,7 +227,13 @@ pub(crate) fn adds_none_near(matrix: &Matrix, pair: &Pair, course: &Course, near
         → IsEdgeMarked a b (outline_edges a b) points course.now.edge matrix.now matrix.now }
 {
     match course.part {
-        Some(part) => is_edge_shown(matrix, pair.first, part, &course.edge),
+        Some(part) => {
+            if is_part_full(matrix, part) {
+                true
+            } else {
+                is_edge_shown(matrix, pair.first, part, &course.edge)
+            }
+        }
         None => {
             if course.is_apart {
                 is_all_shown(matrix, pair.first, pair.second, &course.edge, near)

@@ -144,7 +144,7 @@ fn add_off(walk: Walk, pair: &Pair, course: &Course, part: Part, p: &Place) -> W
 }
 
 /// Whether a geometry consists of polylines.
-fn is_of_lines(other: &IndexedOutline) -> bool
+pub(crate) fn is_of_lines(other: &IndexedOutline) -> bool
     ensures { IsTrue result → other.now.kind ≡ Kind.Lines }
 {
     other.outline().kind == Kind::Lines
