@@ -5,6 +5,7 @@ use Rattle.format_core.specs.Formats.{ReadsAny, ReadsBox}
 use Rattle.any_relation_core.specs.AnyRelations.{rings_of}
 use Rattle.distance_core.specs.ShapePoints.{HasPoint}
 use Rattle.planar_core.specs.AnyPoints.{HasPlace}
+use Rattle.planar_core.specs.Squares.{fraction_of, whole}
 use Rattle.near_core.specs.declared.grown.Grown.{Grown}
 use Rattle.near_core.specs.Formats.{ReadsGrown}
 use Rattle.run_core.specs.ImproperRings.{AreRingsImproper}
@@ -12,7 +13,6 @@ use Rattle.run_core.specs.TextRuns.{texts_of_all}
 use Rattle.join_core.specs.AnyJoinings.{any_joining}
 use Rattle.join_core.specs.Joinings.{box_joining}
 use Rattle.join_core.specs.Products.{join_making}
-use Rattle.near_run_core.specs.AnyNearestRuns.{IsAnyNearestReport}
 use Rattle.near_run_core.specs.NearRuns.{IsGrownMarked, IsNearReport}
 use Rattle.near_run_core.specs.NearestRuns.{IsNearestReport}
 use Rattle.words_core.specs.declared.condition.Condition.{Condition}
@@ -74,14 +74,14 @@ kind_nearest_asks Box nearest = record {
   paths = nearest.paths;
   Geometry = Shape;
   reads = ReadsBox nearest.scale;
-  making = texts_of_all (IsNearestReport nearest.query nearest.scale);
+  making = texts_of_all (IsNearestReport whole HasPoint nearest.query nearest.scale);
   is_improper = λ g. ⊥;
 }
 kind_nearest_asks (Any rings) nearest = record {
   paths = nearest.paths;
   Geometry = AnyGeometry;
   reads = ReadsAny nearest.scale rings;
-  making = texts_of_all (IsAnyNearestReport nearest.query nearest.scale);
+  making = texts_of_all (IsNearestReport fraction_of HasPlace nearest.query nearest.scale);
   is_improper = AreRingsImproper rings;
 }
 

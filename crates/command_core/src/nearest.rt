@@ -8,9 +8,10 @@ ghost use Rattle.command_core.specs.Requests.{nearest_asks};
 
 use crate::workers::options_for;
 use file_core::Unreadable;
-use near_run_core::{AnyNearestJob, NearestJob, any_nearest_text, nearest_text};
+use format_core::AnyFormat;
+use near_run_core::{NearForm, NearestJob, nearest_text};
 use row_core::Source;
-use run_core::{JoinSources, JoinText, MarkedRows, RunFault};
+use run_core::{ImproperRings, JoinSources, JoinText, MarkedRows, RunFault, Unmarked};
 use std::hash::RandomState;
 use std::sync::Wait;
 use std::thread::Threads;
@@ -36,13 +37,21 @@ pub fn nearest_request_text<R: AllocGlobal + Threads + Wait + Sync, F: Source>(
         options: options_for(rt, nearest.options, nearest.workers),
     };
     match nearest.geometries {
-        Geometries::Box => nearest_text(rt, &job, unreadable, states, sources, improper),
+        Geometries::Box => {
+            let form = NearForm {
+                format: nearest.scale,
+                marks: Unmarked,
+            };
+            nearest_text(rt, &job, form, unreadable, states, sources, improper)
+        }
         Geometries::Any(rings) => {
-            let job = AnyNearestJob {
-                nearest: job,
+            let format = AnyFormat {
+                scale: nearest.scale,
                 rings,
             };
-            any_nearest_text(rt, &job, unreadable, states, sources, improper)
+            let marks = ImproperRings { rings };
+            let form = NearForm { format, marks };
+            nearest_text(rt, &job, form, unreadable, states, sources, improper)
         }
     }
 }

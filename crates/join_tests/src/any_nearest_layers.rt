@@ -1,8 +1,9 @@
 //! The nearest features of small layers of any geometry by one worker, by two and by sixteen, with
 //! answers worked out by hand.
 
-use any_nearest_core::{AnyGeometry, Distance, Query, SquaredFraction, nearest_any_layers};
+use any_geometry_core::AnyGeometry;
 use layer_core::Layer;
+use nearest_core::{Distance, Query, SquaredFraction, nearest_layers};
 use plane_core::Rings;
 use refine_core::Refined;
 use std::random::RandomSource;
@@ -94,7 +95,7 @@ pub(crate) fn gives<R: RandomSource + AllocGlobal + Threads + Sync>(
     let query = query(most, within).ok_or("a query")?;
     let (left, right) = (layer(rt, left)?, layer(rt, right)?);
     for workers in [0, 1, 2, 16] {
-        let matches = nearest_any_layers(rt, &left, &right, &query, workers)
+        let matches = nearest_layers(rt, &left, &right, &query, workers)
             .ok()
             .ok_or("matches")?;
         if !are_rows(&matches, rows) {

@@ -2,7 +2,7 @@
 
 use crate::any_nearest_layers::are_rows;
 use crate::large::zigzag;
-use any_nearest_core::{Query, SquaredFraction, nearest_any_layers};
+use nearest_core::{Query, SquaredFraction, nearest_layers};
 use plane_core::Rings;
 use refine_core::Refined;
 use std::random::RandomSource;
@@ -27,7 +27,7 @@ fn found<R: RandomSource + AllocGlobal + Threads + Sync>(
         &[("point", "POINT (4 13)"), ("line", &line)],
         Rings::Proper,
     )?;
-    nearest_any_layers(rt, &left, &right, &Query::new(1, None)?, workers).ok()
+    nearest_layers(rt, &left, &right, &Query::new(1, None)?, workers).ok()
 }
 
 /// Whether the search finds the nearest, tried again if an allocation fails.

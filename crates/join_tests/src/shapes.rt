@@ -1,8 +1,7 @@
-//! The nearest features of one shape, and queries.
+//! The nearest features in a layer with a gap, and queries.
 
-use crate::nearest_layers::{editor, query};
-use geom_core::Shape;
-use nearest_core::{Neighbour, nearest_of};
+use crate::nearest_layers::{are_rows, editor, layer, query};
+use nearest_core::nearest_layers;
 use std::hash::RandomState;
 use std::test::Fail;
 
@@ -12,19 +11,12 @@ fn of_a_layer_with_a_gap(rt: HostRuntime) -> Result<(), Fail> {
     let points = &[(9, 0, 9, 0), (1, 0, 1, 0), (3, 0, 3, 0)];
     let mut editor = editor(rt.alloc(), RandomState::new(&rt)?, points).ok_or("a layer")?;
     editor.remove("1")?;
-    let layer = editor.finish()?;
-    let origin = Shape::new(0, 0, 0, 0).ok_or("a shape")?;
+    let right = editor.finish()?;
+    let origin = &[(0, 0, 0, 0)];
+    let left = layer(rt.alloc(), RandomState::new(&rt)?, origin).ok_or("a layer")?;
     let query = query(2, None).ok_or("a query")?;
-    let found = nearest_of(rt.alloc(), &layer, &origin, &query)?;
-    let second = Neighbour {
-        square: 9,
-        number: 2,
-    };
-    let first = Neighbour {
-        square: 81,
-        number: 0,
-    };
-    assert!(rt; found.as_slice() == [second, first].as_slice());
+    let found = nearest_layers(&rt, &left, &right, &query, 1)?;
+    assert!(rt; are_rows(&found, &[(0, 2, 9), (0, 0, 81)]));
     Ok(())
 }
 

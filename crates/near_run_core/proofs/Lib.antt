@@ -1,5 +1,4 @@
 pub mod AmountLemmas
-pub mod AnyNearestLemmas
 pub mod DistanceLemmas
 pub mod NearRunLemmas
 pub mod NearestLemmas

@@ -1,5 +1,5 @@
 -- The distance of two features, as a field of a report.
-use Rattle.std.specs.Prelude.{◌≡◌, ℕ, List, pos}
+use Rattle.std.specs.Prelude.{◌≡◌, ◌<◌, ◌^◌, ◌++◌, ℕ, List, pos}
 use Rattle.number_core.specs.declared.scale.Scale.{Scale}
 use Rattle.number_core.specs.CanonicalNumbers.{number}
 use Rattle.plane_core.specs.Points.{Point}
@@ -29,3 +29,10 @@ pub record IsDistanceText {G : Type 0} (has_point : G → Point → Type 0) (sca
   pub is_square : IsSquareOf square (has_point g) (has_point h)
   pub rounded : IsRoundedFractionRoot square.0 square.1 units
   pub printed : text ≡ number scale (pos units)
+
+-- a text gains the root of a squared distance, rounded and printed so
+pub record AddsDistance (scale : Scale) (square : ℕ × ℕ) (old new : List ℕ) : Type 0 where
+  pub units : ℕ
+  pub few : units < 2 ^ 64
+  pub rounded : IsRoundedFractionRoot square.0 square.1 units
+  pub grown : new ≡ old ++ number scale (pos units)

@@ -1,4 +1,3 @@
-pub mod AnyNearestRuns
 pub mod DistanceReports
 pub mod DistanceTexts
 pub mod NearRuns

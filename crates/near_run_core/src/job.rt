@@ -3,7 +3,6 @@
 use near_core::{Distance, Nearness};
 use nearest_core::Query;
 use pair_core::Options;
-use plane_core::Rings;
 use wkt_core::Scale;
 
 /// A join of two layers by distance, after edits.
@@ -19,8 +18,7 @@ pub struct NearJob {
     pub options: Options,
 }
 
-/// A search for the features of a layer of boxes that are nearest to each feature of another, after
-/// edits.
+/// A search for the features of a layer that are nearest to each feature of another, after edits.
 #[derive(Clone, Copy)]
 pub struct NearestJob {
     /// The number of decimals that coordinates of the layers and the edits may have, and distances
@@ -31,12 +29,4 @@ pub struct NearestJob {
     pub query: Query,
     /// Of these, only the number of workers matters to the search.
     pub options: Options,
-}
-
-/// The same of two layers of any geometry.
-#[derive(Clone, Copy)]
-pub struct AnyNearestJob {
-    pub nearest: NearestJob,
-    /// The rule for rings.
-    pub rings: Rings,
 }

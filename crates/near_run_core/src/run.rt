@@ -10,7 +10,7 @@ ghost use Rattle.run_core.specs.TextRuns.{MakesText, texts_of_all};
 ghost use Rattle.run_core.specs.Texts.{bytes_of_text};
 ghost use Rattle.near_run_core.specs.NearRuns.{IsNearReport, IsGrownMarked};
 
-use crate::distance_field::DistanceField;
+use crate::distance_field::GrownDistanceField;
 use crate::grown_marks::GrownMarks;
 use crate::job::NearJob;
 use file_core::{LayerReader, Unreadable};
@@ -25,7 +25,8 @@ use std::hash::RandomState;
 use std::sync::Wait;
 use std::thread::Threads;
 
-/// How the geometries of a join by distance are read, and which of them are marked.
+/// How the geometries of a join by distance, or of a search for the nearest, are read, and which of
+/// them are marked.
 #[derive(Clone, Copy)]
 pub struct NearForm<F, M> {
     pub format: F,
@@ -113,7 +114,7 @@ where
     let candidates = meeting_layers(rt, left, right, &job.options)?;
     let pairs = candidates.pairs();
     let condition = NearFeatures::new(rt.alloc(), left, right, pairs, job.nearness)?;
-    let field = DistanceField { scale: job.scale };
+    let field = GrownDistanceField { scale: job.scale };
     let form = RefiningForm {
         condition: &condition,
         field: &field,

@@ -1,7 +1,11 @@
 pub mod CountLemmas
 pub mod MatchLemmas
+pub mod MeasureLemmas
+pub mod NearLemmas
 pub mod OpenLemmas
+pub mod PigeonLemmas
 pub mod QueueLemmas
 pub mod SearchLemmas
 pub mod SquareLemmas
 pub mod StepLemmas
+pub mod SyncLemmas

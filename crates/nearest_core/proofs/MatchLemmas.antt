@@ -1,7 +1,8 @@
 -- The rows of matches, one after another, and chunk by chunk.
 use Rattle.std.proofs.Common.{◌≡◌, ℕ, zero, suc, ◌+◌, ◌*◌, ◌/◌, ◌%◌, ◌<◌, ◌≤◌, min, List, [], ◌∷◌, ◌++◌, Result, Ok, Err, IsOk, IfOk, map, length, get_or, take, refl, sym, ap, subst, ◌∙◌, arith}
 use Rattle.std.proofs.Common.{suc-mul, add-one, zero-mul, add-mul, one-mul, div-add-mod', ⊎_elim}
-use Rattle.std.specs.Prelude.{count_by, Option}
+use Rattle.std.specs.Prelude.{All, Contains, Option, None, Some, option_map}
+use Rattle.std.specs.Borrow.{Bor}
 use Rattle.std.specs.Global.{Global}
 use Rattle.std.specs.Fork.{slice_chunk, IsChunk}
 use Rattle.std.specs.List.{AllZip, flat_map}
@@ -9,48 +10,17 @@ use Rattle.std.specs.declared.alloc.AllocError.{AllocError}
 use Rattle.std.specs.declared.vec.Vec.{Vec}
 use Rattle.std.proofs.lemmas.Bool.{cases_lt}
 use Rattle.std.proofs.lemmas.Nat.{mod_below}
-use Rattle.std.proofs.lemmas.List.{append-nil, take_all, take-take, drop-take, take-append-drop, take_more, flat_map_more}
+use Rattle.std.proofs.lemmas.List.{append-nil, take_all, take-take, drop-take, take-append-drop, take_more, flat_map_more, get_or_default}
+use Rattle.std.proofs.lemmas.List.Elements.{All-contains_itself, All-head, All-tail, All-weaker}
 use Rattle.std.proofs.lemmas.List.Concat.{flat_map-append}
-use Rattle.geom_core.specs.declared.shape.Shape.{Shape}
-use Rattle.rtree_core.specs.declared.node.Entry.{Entry}
-use Rattle.rtree_core.specs.declared.node.Node.{Node}
-use Rattle.rtree_core.specs.Trees.{entries_in}
-use Rattle.layer_core.specs.Layers.{Feature, Contents}
-use Rattle.layer_core.specs.LayerTrees.{indexed, entries_for, IsTreeOf}
+use Rattle.plane_core.specs.Points.{Point}
+use Rattle.layer_core.specs.Layers.{Feature, Contents, IsLayer, with_number, ShapeIs}
+use Rattle.filter_core.proofs.NumberLemmas.{held_by_number, listed_by_number}
 use Rattle.refine_core.specs.declared.refined.Refined.{Refined}
 use Rattle.nearest_core.specs.declared.neighbour.Neighbour.{Neighbour}
 use Rattle.distance_core.specs.declared.query.Query.{Query}
-use Rattle.nearest_core.specs.Matches.{paired, AreRows, AreMatches, AreMatchesOf, IsEntryRow, IsRowOf, matches_or_none}
-use Rattle.nearest_core.specs.Boxes.{AreNearestBoxes}
-use Rattle.nearest_core.specs.Nearest.{AreNearest, AreNearestIn, IsNeighbour}
-use Rattle.nearest_core.specs.Searches.{neighbour_of, row_of}
-use Rattle.nearest_core.proofs.CountLemmas.{count_map}
-use Rattle.nearest_core.proofs.SquareLemmas.{square_from}
-use Rattle.nearest_core.proofs.StepLemmas.{nearest_there}
-
-measured : (shape : Shape) (fs : List (Feature Shape)) → AllZip (IsNeighbour shape) fs (row_of shape (map (indexed (λ s. s)) fs))
-measured shape [] = tt
-measured shape (f ∷ fs) = (record { number = refl; square = square_from shape f.shape _ refl }, measured shape fs)
-
--- the nearest of a layer's tree are those of the layer's boxes
-pub nearest_by_boxes : {G : Type 0} (box_of : G → Shape) (query : Query) (layer : Contents G) (shape : Shape) (tree root : Option Node) (found : List Neighbour)
-    → tree ≡ root → IsTreeOf box_of layer root → AreNearest query (row_of shape (entries_in tree)) found
-    → AreNearestBoxes box_of query layer shape found
-nearest_by_boxes box_of query layer shape tree root found is exact nearest =
-    nearest_there query (row_of shape (entries_in tree)) (row_of shape (entries_for box_of layer))
-    (λ p. ap (λ (t : Option Node). count_by p (row_of shape (entries_in t))) is
-    ∙ count_map p (neighbour_of shape) (entries_in root) ∙ sym (exact.same (λ e. p (neighbour_of shape e)))
-    ∙ sym (count_map p (neighbour_of shape) (entries_for box_of layer))) found nearest
-
--- and those of a layer of boxes
-pub nearest_in_layer : (query : Query) (layer : Contents Shape) (shape : Shape) (tree root : Option Node) (found : List Neighbour)
-    → tree ≡ root → IsTreeOf (λ s. s) layer root → AreNearest query (row_of shape (entries_in tree)) found
-    → AreNearestIn query layer shape found
-nearest_in_layer query layer shape tree root found is exact nearest = record {
-  row = row_of shape (entries_for (λ s. s) layer);
-  measured = measured shape layer.features;
-  nearest = nearest_by_boxes (λ s. s) query layer shape tree root found is exact nearest;
-}
+use Rattle.nearest_core.specs.Matches.{AddsRow, AreMatches, AreMatchesOf, AreRows, IsNumberRow, IsRowOf, feature_numbers, matches_or_none, paired}
+use Rattle.nearest_core.specs.Nearest.{AreNearestIn}
 
 zip_append : {A B : Type 0} (R : A → B → Type 0) (xs : List A) (ys : List B) (vs : List A) (ws : List B)
     → AllZip R xs ys → AllZip R vs ws → AllZip R (xs ++ vs) (ys ++ ws)
@@ -79,32 +49,70 @@ rows_more {A} {M} R xs i x a row within at h is =
     subst (λ (ys : List A). AreRows R ys (a ++ row)) (ap (λ (y : A). take i xs ++ y ∷ []) at ∙ sym (take_more xs i x within))
     (rows_append R (take i xs) (x ∷ []) a row h (record { rows = row ∷ []; are_rows = (is, tt); joined = sym (append-nil row) }))
 
--- the matches of one more left feature
-pub matches_more : (query : Query) (right : Contents Shape) (lefts : List Entry) (i : ℕ) (left : Entry) (old new : List (Refined ℕ))
-    (found seen : List Neighbour) → i < length lefts → left ≡ get_or lefts i left → AreMatchesOf query right (take i lefts) old
-    → AreNearestIn query right left.shape found → seen ≡ found → new ≡ old ++ map (paired left.number) seen
-    → AreMatchesOf query right (take (i + 1) lefts) new
-matches_more query right lefts i left old new found seen within at so_far nearest same grown =
-    subst (AreMatchesOf query right (take (i + 1) lefts)) (sym grown)
-    (rows_more (IsEntryRow query right) lefts i left old (map (paired left.number) seen) within at so_far
-    (record { found = found; nearest = nearest; pairs = ap (map (paired left.number)) same }))
+module _ {G S : Type 0} (fraction : S → ℕ × ℕ) (has_point : G → Point → Type 0) (query : Query) (right left : Contents G) where
+  -- no feature has the number
+  pub no_row : (number : ℕ) (old : List (Refined S)) → ShapeIs {G = G} None (with_number number left) → AddsRow fraction has_point query right left number old old
+  no_row number old none = record {
+    row = [];
+    grown = sym (append-nil old);
+    is = λ f held.
+        let bad : None ≡ Some f.shape = subst (λ (t : Option (Feature G)). None ≡ option_map (λ h. h.shape) t) held none in
+        absurd cc;
+  }
 
-unindexed : (query : Query) (right : Contents Shape) (fs : List (Feature Shape)) (rows : List (List (Refined ℕ)))
-    → AllZip (IsEntryRow query right) (map (indexed (λ s. s)) fs) rows → AllZip (IsRowOf query right) fs rows
-unindexed query right [] [] h = tt
-unindexed query right [] (r ∷ rs) h = absurd h
-unindexed query right (f ∷ fs) [] h = absurd h
-unindexed query right (f ∷ fs) (r ∷ rs) h = (h.0, unindexed query right fs rs h.1)
+  -- the row of the feature that has the number
+  one_row : (number : ℕ) (old new : List (Refined S)) (b : Bor G) (found seen : List (Neighbour S))
+      → ShapeIs (Some b) (with_number number left) → AreNearestIn fraction has_point query right b.now found → seen ≡ found → new ≡ old ++ map (paired number) seen
+      → (f : Feature G) → with_number number left ≡ Some f → f.number ≡ number → IsRowOf fraction has_point query right f (map (paired number) seen)
+  one_row number old new b found seen is nearest same grown f held number_is =
+      let shapes : Some b.now ≡ Some f.shape = subst (λ (t : Option (Feature G)). Some b.now ≡ option_map (λ h. h.shape) t) held is in
+      let shape : b.now ≡ f.shape = cc in
+      record {
+        found = seen;
+        nearest = subst (λ (g : G). AreNearestIn fraction has_point query right g seen) shape
+            (subst (AreNearestIn fraction has_point query right b.now) (sym same) nearest);
+        pairs = ap (λ (k : ℕ). map (paired k) seen) (sym number_is);
+      }
 
--- the matches of a layer's entries are those of its features
-pub of_features : (query : Query) (right left : Contents Shape) (lefts : List Entry) (matches : List (Refined ℕ))
-    → lefts ≡ entries_for (λ s. s) left → AreMatchesOf query right lefts matches → AreMatches query right left.features matches
-of_features query right left lefts matches are h = record {
-  rows = h.rows;
-  are_rows = unindexed query right left.features h.rows
-      (subst (λ (es : List Entry). AllZip (IsEntryRow query right) es h.rows) are h.are_rows);
-  joined = h.joined;
-}
+  pub row_added : (number : ℕ) (old new : List (Refined S)) (b : Bor G) (found seen : List (Neighbour S))
+      → ShapeIs (Some b) (with_number number left) → AreNearestIn fraction has_point query right b.now found → seen ≡ found → new ≡ old ++ map (paired number) seen
+      → AddsRow fraction has_point query right left number old new
+  row_added number old new b found seen is nearest same grown = record {
+    row = map (paired number) seen;
+    grown = grown;
+    is = λ f held. one_row number old new b found seen is nearest same grown f held (listed_by_number left.features number f held).1;
+  }
+
+  -- the matches of one more left feature
+  pub matches_more : (numbers : List ℕ) (i d : ℕ) (old new : List (Refined S)) → i < length numbers
+      → AreMatchesOf fraction has_point query right left (take i numbers) old → AddsRow fraction has_point query right left (get_or numbers i d) old new
+      → AreMatchesOf fraction has_point query right left (take (i + 1) numbers) new
+  matches_more numbers i d old new within so_far adds =
+      let number = get_or numbers i d in
+      subst (AreMatchesOf fraction has_point query right left (take (i + 1) numbers)) (sym adds.grown)
+      (rows_more (IsNumberRow fraction has_point query right left) numbers i number old adds.row within (sym (get_or_default numbers i number d within)) so_far adds.is)
+
+  by_numbers : (fs : List (Feature G)) (rows : List (List (Refined S))) → All (λ f. with_number f.number left ≡ Some f) fs
+      → AllZip (IsNumberRow fraction has_point query right left) (map (λ f. f.number) fs) rows → AllZip (IsRowOf fraction has_point query right) fs rows
+  by_numbers [] [] held h = tt
+  by_numbers [] (r ∷ rs) held h = absurd h
+  by_numbers (f ∷ fs) [] held h = absurd h
+  by_numbers (f ∷ fs) (r ∷ rs) held h = (
+    h.0 f (All-head (λ x. with_number x.number left ≡ Some x) f fs held),
+    by_numbers fs rs (All-tail (λ x. with_number x.number left ≡ Some x) f fs held) h.1,
+  )
+
+  -- the matches of a layer's numbers are those of its features
+  pub of_features : (is : IsLayer left) (numbers : List ℕ) (matches : List (Refined S)) → numbers ≡ feature_numbers left
+      → AreMatchesOf fraction has_point query right left numbers matches → AreMatches fraction has_point query right left.features matches
+  of_features is numbers matches are h = record {
+    rows = h.rows;
+    are_rows = by_numbers left.features h.rows
+        (All-weaker (Contains left.features) (λ f. with_number f.number left ≡ Some f) (λ f c. held_by_number left.features f is.rising c)
+        left.features (All-contains_itself left.features))
+        (subst (λ (ns : List ℕ). AllZip (IsNumberRow fraction has_point query right left) ns h.rows) are h.are_rows);
+    joined = h.joined;
+  }
 
 -- this number of chunks leaves no element out
 covered : (count len size : ℕ) → 0 < size → count ≡ len / size + min 1 (len % size) → len ≤ count * size

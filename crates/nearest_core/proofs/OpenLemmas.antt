@@ -16,8 +16,7 @@ use Rattle.rtree_core.proofs.NodeLemmas.{has_children, has_entries}
 use Rattle.nearest_core.specs.declared.candidate.Item.TheVariants.{Subtree, Feature}
 use Rattle.nearest_core.specs.Squares.{square_of}
 use Rattle.nearest_core.specs.declared.candidate.Candidate.{Candidate}
-use Rattle.nearest_core.specs.declared.neighbour.Neighbour.{Neighbour}
-use Rattle.nearest_core.specs.Searches.{stands_for, neighbour_of, row_of, work_of, IsCandidate, Adds, AddsEntries, AddsNodes, Opens, node_work}
+use Rattle.nearest_core.specs.Searches.{BoxedFeature, stands_for, boxed_of, row_of, work_of, IsCandidate, Adds, AddsEntries, AddsNodes, Opens, node_work}
 
 pub adds_none : (shape : Shape) (old : List Candidate) → Adds shape [] 0 old old
 adds_none shape old = record {
@@ -29,7 +28,7 @@ adds_none shape old = record {
 }
 
 -- one candidate more
-pub adds_more : (shape : Shape) (row stands : List Neighbour) (work : ℕ) (old mid new : List Candidate) (c : Candidate)
+pub adds_more : (shape : Shape) (row stands : List BoxedFeature) (work : ℕ) (old mid new : List Candidate) (c : Candidate)
     → Adds shape row work old mid → IsPermutation (c ∷ mid) new → stands_for shape c ≡ stands → IsCandidate shape c
     → Adds shape (row ++ stands) (work + work_of c) old new
 adds_more shape row stands work old mid new c a perm same is = record {
@@ -37,13 +36,13 @@ adds_more shape row stands work old mid new c a perm same is = record {
   added = subst (λ (cs : List Candidate). IsPermutation cs new) (sym (append_assoc a.more (c ∷ []) old))
       (IsPermutation-trans (a.more ++ c ∷ old) (c ∷ (a.more ++ old)) new (IsPermutation-middle a.more c old)
       (IsPermutation-trans (c ∷ (a.more ++ old)) (c ∷ mid) new (IsPermutation-cons c (a.more ++ old) mid a.added) perm));
-  same = flat_map-append (stands_for shape) a.more (c ∷ []) ∙ ap (λ (ns : List Neighbour). ns ++ (stands_for shape c ++ [])) a.same
-      ∙ ap (λ (ns : List Neighbour). row ++ ns) (append-nil (stands_for shape c) ∙ same);
+  same = flat_map-append (stands_for shape) a.more (c ∷ []) ∙ ap (λ (ns : List BoxedFeature). ns ++ (stands_for shape c ++ [])) a.same
+      ∙ ap (λ (ns : List BoxedFeature). row ++ ns) (append-nil (stands_for shape c) ∙ same);
   each = All-append (IsCandidate shape) a.more (c ∷ []) a.each (All-cons (IsCandidate shape) c [] is (All-nil (IsCandidate shape)));
   work_is = sum_by_push work_of a.more c ∙ ap (λ n. n + work_of c) a.work_is;
 }
 
-adds_as : (shape : Shape) (row row' : List Neighbour) (work work' : ℕ) (old new : List Candidate) → row ≡ row' → work ≡ work'
+adds_as : (shape : Shape) (row row' : List BoxedFeature) (work work' : ℕ) (old new : List Candidate) → row ≡ row' → work ≡ work'
     → Adds shape row work old new → Adds shape row' work' old new
 adds_as shape row row' work work' old new e f a = record {
   more = a.more;
@@ -61,9 +60,9 @@ pub entry_more : (shape : Shape) (es : List Entry) (i : ℕ) (e : Entry) (square
 entry_more shape es i e square old mid new within at is a perm =
     let c : Candidate = record { square = square; item = Feature e.number } in
     adds_as shape _ _ _ _ old new
-    (sym (map-append (neighbour_of shape) (take i es) (e ∷ [])) ∙ ap (λ (x : Entry). row_of shape (take i es ++ x ∷ [])) at
+    (sym (map-append (boxed_of shape) (take i es) (e ∷ [])) ∙ ap (λ (x : Entry). row_of shape (take i es ++ x ∷ [])) at
     ∙ ap (row_of shape) (sym (take_more es i e within))) refl
-    (adds_more shape (row_of shape (take i es)) (neighbour_of shape e ∷ []) i old mid new c a perm
+    (adds_more shape (row_of shape (take i es)) (boxed_of shape e ∷ []) i old mid new c a perm
     (ap (λ (n : ℕ). (record { square = n; number = e.number }) ∷ []) is) tt)
 
 -- one subtree more
@@ -77,7 +76,7 @@ child_more shape xs i n square old mid new within at lawful is a perm =
     let one : n.now ∷ [] ≡ get_or xs i n.now ∷ [] = ap (λ (m : Node). m ∷ []) at in
     let whole : front ++ n.now ∷ [] ≡ take (i + 1) xs = ap (λ (ms : List Node). front ++ ms) one ∙ sym (take_more xs i n.now within) in
     adds_as shape _ _ _ _ old new
-    (sym (map-append (neighbour_of shape) (flat_map entries_of front) (entries_of n.now))
+    (sym (map-append (boxed_of shape) (flat_map entries_of front) (entries_of n.now))
     ∙ ap (row_of shape) (ap (λ (es : List Entry). flat_map entries_of front ++ es) (sym (append-nil (entries_of n.now)))
     ∙ sym (flat_map-append entries_of front (n.now ∷ []))) ∙ ap (λ (ms : List Node). row_of shape (flat_map entries_of ms)) whole)
     (sym (sum_by_push node_work front n.now) ∙ ap (sum_by node_work) whole)

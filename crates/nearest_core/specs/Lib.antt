@@ -1,7 +1,9 @@
-pub mod Boxes
 pub mod Candidates
+pub mod Limits
 pub mod Matches
 pub mod Nearest
+pub mod Orders
 pub mod Queues
 pub mod Searches
 pub mod Squares
+pub mod Steps

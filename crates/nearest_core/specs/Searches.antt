@@ -1,7 +1,6 @@
--- A search of a tree, and the neighbours that the candidates in its queue stand for.
-use Rattle.std.specs.Prelude.{◌≡◌, ◌<◌, ◌≤◌, ◌⊎◌, ℕ, ◌+◌, ◌*◌, List, [], ◌∷◌, ◌++◌, map, length}
-use Rattle.std.specs.Prelude.{All, IsPermutation, sum_by, ◌-◌, slice_index_or, nat_eq}
-use Rattle.std.specs.Prelude.{count_by}
+-- The candidates in the queue of a search, and the features that they stand for.
+use Rattle.std.specs.Prelude.{◌≡◌, ◌<◌, ℕ, ◌+◌, ◌*◌, List, [], ◌∷◌, ◌++◌, map, length}
+use Rattle.std.specs.Prelude.{All, IsPermutation, sum_by}
 use Rattle.std.specs.List.{flat_map}
 use Rattle.geom_core.specs.declared.shape.Shape.{Shape}
 use Rattle.rtree_core.specs.declared.node.Entry.{Entry}
@@ -10,25 +9,27 @@ use Rattle.rtree_core.specs.Nodes.{entries_of, level_of, node_cover, IsLawful}
 use Rattle.nearest_core.specs.declared.candidate.Item.{Item}
 use Rattle.nearest_core.specs.declared.candidate.Item.TheVariants.{Subtree, Feature}
 use Rattle.nearest_core.specs.declared.candidate.Candidate.{Candidate}
-use Rattle.nearest_core.specs.declared.neighbour.Neighbour.{Neighbour}
-use Rattle.distance_core.specs.declared.query.Query.{Query}
-use Rattle.distance_core.specs.Queries.{most_of, within_of, IsInReach}
 use Rattle.nearest_core.specs.Squares.{square_of}
 
--- an entry as a neighbour of a shape
-abbrev pub neighbour_of : Shape → Entry → Neighbour
-neighbour_of shape e = record { square = square_of shape e.shape; number = e.number }
+-- a feature by the squared distance of its box from a shape, and its number
+pub record BoxedFeature : Type 0 where
+  pub square : ℕ
+  pub number : ℕ
+
+-- an entry as such a feature
+abbrev pub boxed_of : Shape → Entry → BoxedFeature
+boxed_of shape e = record { square = square_of shape e.shape; number = e.number }
 
 -- the row of these entries
-abbrev pub row_of : Shape → List Entry → List Neighbour
-row_of shape entries = map (neighbour_of shape) entries
+abbrev pub row_of : Shape → List Entry → List BoxedFeature
+row_of shape entries = map (boxed_of shape) entries
 
-abbrev pub item_row : Shape → ℕ → Item → List Neighbour
+abbrev pub item_row : Shape → ℕ → Item → List BoxedFeature
 item_row shape square (Subtree n) = row_of shape (entries_of n.now)
 item_row shape square (Feature number) = record { square = square; number = number } ∷ []
 
--- the neighbours that a candidate stands for
-abbrev pub stands_for : Shape → Candidate → List Neighbour
+-- the features that a candidate stands for
+abbrev pub stands_for : Shape → Candidate → List BoxedFeature
 stands_for shape c = item_row shape c.square c.item
 
 abbrev pub IsItemOf : Shape → ℕ → Item → Type 0
@@ -49,7 +50,7 @@ abbrev pub work_of : Candidate → ℕ
 work_of c = item_work c.item
 
 -- a queue gains candidates that stand for this row, with less work than this
-pub record Adds (shape : Shape) (row : List Neighbour) (work : ℕ) (old new : List Candidate)
+pub record Adds (shape : Shape) (row : List BoxedFeature) (work : ℕ) (old new : List Candidate)
     : Type 0 where
   pub more : List Candidate
   pub added : IsPermutation (more ++ old) new
@@ -74,28 +75,3 @@ pub record Opens (shape : Shape) (n : Node) (old new : List Candidate) : Type 0 
   pub work : ℕ
   pub adds : Adds shape (row_of shape (entries_of n)) work old new
   pub less : work < node_work n
-
-abbrev pub VisitsItem : Shape → ℕ → Item → List Candidate → List Candidate → List Neighbour
-    → List Neighbour → Type 0
-VisitsItem shape square (Subtree n) old new found found' =
-    Opens shape n.now old new × (found' ≡ found)
-VisitsItem shape square (Feature number) old new found found' =
-    (new ≡ old) × (found' ≡ found ++ (record { square = square; number = number }) ∷ [])
-
--- a queue gains what a subtree's node holds, or a feature is found
-abbrev pub Visits : Shape → Candidate → List Candidate → List Candidate → List Neighbour
-    → List Neighbour → Type 0
-Visits shape c old new found found' = VisitsItem shape c.square c.item old new found found'
-
--- as many are found as are asked for, and the last of them is strictly nearer than this
-pub record IsFull (query : Query) (found : List Neighbour) (square : ℕ) : Type 0 where
-  pub enough : most_of query ≤ length found
-  pub nearer : (d : Neighbour) → (slice_index_or found (length found - 1) d).square < square
-
--- none that is this far away, or further, is asked for
-abbrev pub EndsAt : Query → List Neighbour → ℕ → Type 0
-EndsAt query found square = ¬ (IsInReach (within_of query) square) ⊎ IsFull query found square
-
--- the numbers of the features of a row are distinct
-abbrev pub AreDistinct : List Neighbour → Type 0
-AreDistinct row = (k : ℕ) → count_by (λ n. nat_eq n.number k) row ≤ 1

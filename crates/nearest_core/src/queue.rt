@@ -1,10 +1,11 @@
-//! The priority queue of a search, the nearest candidate first.
+//! The priority queue of candidates, the nearest first.
 
 ghost use Rattle.std.specs.BinaryHeap.{heap_items, IsHeap};
 ghost use Rattle.std.proofs.Props.{props};
 ghost use Rattle.nearest_core.specs.Candidates.{nearest_first};
 
 use crate::candidate::Candidate;
+use distance_core::SquaredDistance;
 use std::alloc::{AllocError, Global};
 use std::cmp::Reverse;
 use std::collections::BinaryHeap;
@@ -17,7 +18,8 @@ pub(crate) struct Queue<'a> {
 }
 
 impl<'a> Queue<'a> {
-    ghost use Rattle.std.specs.Prelude.{◌≡◌, [], ◌∷◌, OnOk, IfSome, IfNone, All, IsPermutation};
+    ghost use Rattle.std.specs.Prelude.{◌≡◌, ◌≤◌, [], ◌∷◌, OnOk, IfSome, IfNone};
+    ghost use Rattle.std.specs.Prelude.{map, All, Contains, IsPermutation};
     ghost use Rattle.nearest_core.specs.Candidates.{IsNoLater};
     ghost use Rattle.nearest_core.specs.Queues.{waiting};
 
@@ -44,6 +46,16 @@ impl<'a> Queue<'a> {
     {
         self.heap.push(Reverse(candidate))?;
         Ok(())
+    }
+
+    /// The squared distance of the first candidate.
+    pub(crate) fn first_square(&self) -> Option<SquaredDistance>
+        ensures first { IfSome result (λ square. All (λ d. square ≤ d.square) (waiting self.now)) }
+        ensures held { IfSome result (Contains (map (λ d. d.square) (waiting self.now))) }
+        ensures none { IfNone result (waiting self.now ≡ []) }
+    {
+        let Reverse(candidate) = self.heap.peek()?;
+        Some(candidate.square)
     }
 
     /// Takes out the first candidate.

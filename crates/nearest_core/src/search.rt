@@ -1,104 +1,197 @@
-//! The best-first search of a tree for the features nearest to a shape.
+//! The best-first search of a layer's tree for the features nearest to a geometry.
 
-ghost use Rattle.std.specs.Prelude.{◌≡◌, ◌↔◌, [], All, IsTrue, OnOk};
-ghost use Rattle.std.specs.List.{flat_map};
+ghost use Rattle.std.specs.Prelude.{◌≡◌, ◌↔◌, [], All, IsTrue, OnOk, IsPermutation};
+ghost use Rattle.std.specs.BinaryHeap.{heap_items, IsHeap};
 ghost use Rattle.rtree_core.specs.Nodes.{IsLawful};
-ghost use Rattle.rtree_core.specs.Trees.{entries_in};
-ghost use Rattle.nearest_core.specs.Nearest.{AreNearest};
-ghost use Rattle.nearest_core.specs.Queues.{waiting};
-ghost use Rattle.nearest_core.specs.Searches.{Opens, EndsAt, AddsEntries, AddsNodes, AreDistinct};
-ghost use Rattle.nearest_core.specs.Searches.{IsCandidate, Visits, row_of, stands_for};
+ghost use Rattle.nearest_core.specs.Nearest.{AreNearestIn};
+ghost use Rattle.nearest_core.specs.Queues.{waiting, measured_in, nearest_last, lists_of};
+ghost use Rattle.nearest_core.specs.Searches.{Opens, AddsEntries, AddsNodes};
+ghost use Rattle.nearest_core.specs.Steps.{EndsAt, HoldsAll, IsFull, IsVisitable, Visits};
+ghost use Rattle.nearest_core.specs.Steps.{with_one};
 
 use crate::candidate::{Candidate, Item};
+use crate::measure::square_of;
 use crate::neighbour::Neighbour;
+use crate::next::{Measured, Next, next_of};
+use crate::prepared::PreparedLayer;
 use crate::queue::Queue;
+use crate::sought::Sought;
 use distance_core::{Query, SquaredDistance, squared_distance};
 use geom_core::Shape;
-use rtree_core::{Entry, Node, RTree};
-use std::alloc::AllocError;
+use planar_core::{Planar, Square};
+use rtree_core::{Entry, Node};
+use std::alloc::{AllocError, Global};
+use std::cmp::Reverse;
 
-/// Finds the neighbours of a shape that are asked for, the nearest first.
+/// The lists of a search, whose room is used again by the next one.
+#[derive(Drop)]
+pub(crate) struct Room<'a, S: Square> {
+    queue: Queue<'a>,
+    measured: Measured<S>,
+    pub(crate) found: Vec<Neighbour<S>>,
+}
+
+impl<'a, S: Square> Room<'a, S> {
+    /// No lists.
+    pub(crate) fn new(alloc: Global) -> Room<'a, S> {
+        Room {
+            queue: Queue::new(alloc),
+            measured: Measured::new(alloc),
+            found: Vec::new(alloc),
+        }
+    }
+}
+
+/// Finds the neighbours of a geometry that are asked for, the nearest first. What the lists hold is
+/// dropped.
 ///
-/// The queue holds subtrees and features, and the first of them is taken out and, if it is a
-/// subtree, replaced by its children or entries (Hjaltason and Samet 1999). So a feature that comes
-/// first is no further away than those that are left, and no subtree is opened that can't hold one
-/// that is asked for.
-pub(crate) fn search<'a>(
-    tree: &'a RTree,
-    shape: &Shape,
-    query: &Query,
-    queue: &mut Queue<'a>,
-    found: &mut Vec<Neighbour>,
+/// One queue holds subtrees and features by the distances of their boxes, and another the features
+/// that were measured. What is nearest of both comes next (Hjaltason and Samet 1999): a subtree is
+/// replaced by its children or entries, a feature is measured, and one that was measured is found.
+/// So no subtree is opened and no feature measured that can't be one of those that are asked for.
+pub(crate) fn search<'a, G: Planar>(
+    alloc: Global,
+    right: &PreparedLayer<'a, G>,
+    sought: &Sought<'_, G>,
+    room: &mut Room<'a, G::Square>,
 ) -> Result<(), AllocError>
-    ensures { OnOk result
-        (AreNearest query.now (row_of shape.now (entries_in tree.now)) found.new.items) }
+    requires bounds { sought.now.bounds ≡ G.box_of sought.now.geometry.now }
+    requires form { G.is_form sought.now.geometry.now sought.now.form.now }
+    ensures { OnOk result (AreNearestIn G.Square.fraction G.has_point sought.now.query.now right.now
+        sought.now.geometry.now room.new.found.items) }
 {
-    queue.clear();
-    found.clear();
-    let Some(root) = tree.root() else {
+    room.queue.clear();
+    room.measured.clear();
+    room.found.clear();
+    let layer = right.layer();
+    // The numbers of a layer's features are distinct, as its length's contract says.
+    let _len = layer.len();
+    let Some(root) = layer.tree().root() else {
         return Ok(());
     };
-    queue.push(Candidate {
-        square: squared_distance(shape, &root.cover()),
+    room.queue.push(Candidate {
+        square: squared_distance(&sought.bounds, &root.cover()),
         item: Item::Subtree(root),
     })?;
-    browse(shape, query, queue, found)
+    browse(
+        alloc,
+        right,
+        sought,
+        &mut room.queue,
+        &mut room.measured,
+        &mut room.found,
+    )
 }
 
 /// Finds those that are asked for among the features that the candidates of a queue stand for, the
 /// nearest first.
-fn browse<'a>(
-    shape: &Shape,
-    query: &Query,
+fn browse<'a, G: Planar>(
+    alloc: Global,
+    right: &PreparedLayer<'a, G>,
+    sought: &Sought<'_, G>,
     queue: &mut Queue<'a>,
-    found: &mut Vec<Neighbour>,
+    measured: &mut Measured<G::Square>,
+    found: &mut Vec<Neighbour<G::Square>>,
 ) -> Result<(), AllocError>
-    requires none { found.old.items ≡ [] }
-    requires each { All (IsCandidate shape.now) (waiting queue.old) }
-    requires distinct { AreDistinct (flat_map (stands_for shape.now) (waiting queue.old)) }
-    ensures { let row = flat_map (stands_for shape.now) (waiting queue.old) in
-        OnOk result (AreNearest query.now row found.new.items) }
+    requires bounds { sought.now.bounds ≡ G.box_of sought.now.geometry.now }
+    requires form { G.is_form sought.now.geometry.now sought.now.form.now }
+    requires empty { (measured_in measured.old ≡ []) × (found.old.items ≡ []) }
+    requires heap { IsHeap (nearest_last G.Square.fraction) (heap_items measured.old) }
+    requires queue { HoldsAll G.box_of right.now sought.now.geometry.now (waiting queue.old) }
+    ensures { OnOk result (AreNearestIn G.Square.fraction G.has_point sought.now.query.now right.now
+        sought.now.geometry.now found.new.items) }
 {
-    while let Some(candidate) = queue.pop() {
-        let ends = ends_at(query, found, candidate.square);
+    while let Some(next) = next_of(queue, measured) {
+        let ends = ends_at(sought.query, found, &next);
         if ends {
             return Ok(());
         }
-        visit(candidate, shape, queue, found)?;
+        visit(alloc, right, sought, next, queue, measured, found)?;
     }
     Ok(())
 }
 
-/// Opens a subtree, or adds a feature to those that are found.
-fn visit<'a>(
-    candidate: Candidate<'a>,
-    shape: &Shape,
+/// Opens a subtree, measures a feature, or adds a measured one to those that are found.
+fn visit<'a, G: Planar>(
+    alloc: Global,
+    right: &PreparedLayer<'a, G>,
+    sought: &Sought<'_, G>,
+    next: Next<'a, G::Square>,
     queue: &mut Queue<'a>,
-    found: &mut Vec<Neighbour>,
+    measured: &mut Measured<G::Square>,
+    found: &mut Vec<Neighbour<G::Square>>,
 ) -> Result<(), AllocError>
-    requires { IsCandidate shape.now candidate }
-    ensures { OnOk result (Visits shape.now candidate.entry (waiting queue.old) (waiting queue.new)
-        found.old.items found.new.items) }
+    requires form { G.is_form sought.now.geometry.now sought.now.form.now }
+    requires heap { IsHeap (nearest_last G.Square.fraction) (heap_items measured.old) }
+    requires next { IsVisitable G.box_of sought.now.query.now right.now sought.now.geometry.now
+        sought.now.bounds next }
+    ensures heap { IsHeap (nearest_last G.Square.fraction) (heap_items measured.new) }
+    ensures visits { OnOk result (Visits G.Square.fraction G.has_point sought.now.query.now right.now
+        sought.now.geometry.now sought.now.bounds next.entry
+        (lists_of queue.old measured.old found.old.items)
+        (lists_of queue.new measured.new found.new.items)) }
 {
-    match candidate.item {
-        Item::Subtree(node) => open(queue, shape, node)?,
-        Item::Feature(number) => found.push(Neighbour {
-            square: candidate.square,
-            number,
-        })?,
+    match next {
+        Next::Boxed(candidate) => match candidate.item {
+            Item::Subtree(node) => open(queue, &sought.bounds, node),
+            Item::Feature(number) => {
+                let square = square_of(alloc, right, number, candidate.square, sought)?;
+                push_measured(measured, number, square)
+            }
+        },
+        Next::Measured(neighbour) => {
+            found.push(neighbour)?;
+            Ok(())
+        }
+    }
+}
+
+/// Adds a feature to those that were measured, if it is in reach.
+fn push_measured<S: Square>(
+    measured: &mut Measured<S>,
+    number: u32,
+    square: Option<S>,
+) -> Result<(), AllocError>
+    requires { IsHeap (nearest_last S.fraction) (heap_items measured.old) }
+    ensures heap { IsHeap (nearest_last S.fraction) (heap_items measured.new) }
+    ensures added { OnOk result
+        (IsPermutation (with_one number square (measured_in measured.old)) (measured_in measured.new)) }
+{
+    if let Some(square) = square {
+        measured.push(Reverse(Neighbour { square, number }))?;
     }
     Ok(())
 }
 
-/// Whether a search has found all that are asked for, once nothing nearer than this is left.
-fn ends_at(query: &Query, found: &[Neighbour], square: SquaredDistance) -> bool
-    ensures { IsTrue result ↔ EndsAt query.now found.now square }
+/// Whether a search has found all that are asked for, once nothing comes before this.
+fn ends_at<S: Square>(query: &Query, found: &[Neighbour<S>], next: &Next<'_, S>) -> bool
+    ensures { IsTrue result ↔ EndsAt S.fraction query.now found.now next.now }
 {
-    if !query.reaches(square) {
-        return true;
+    match next {
+        Next::Boxed(candidate) => {
+            let reached = query.reaches(candidate.square);
+            !reached || is_full_below(query, found, candidate.square)
+        }
+        Next::Measured(neighbour) => is_full_before(query, found, &neighbour.square),
     }
+}
+
+/// Whether enough are found, and the last of them is strictly nearer than a whole square.
+fn is_full_below<S: Square>(query: &Query, found: &[Neighbour<S>], square: SquaredDistance) -> bool
+    ensures { IsTrue result ↔ IsFull S.fraction query.now found.now (square, 1) }
+{
     match found.last() {
-        Some(last) => found.len() >= query.most() as usize && last.square < square,
+        Some(last) => found.len() >= query.most() as usize && last.square.is_below(square),
+        None => false,
+    }
+}
+
+/// Whether enough are found, and the last of them is strictly nearer than a square.
+fn is_full_before<S: Square>(query: &Query, found: &[Neighbour<S>], square: &S) -> bool
+    ensures { IsTrue result ↔ IsFull S.fraction query.now found.now (S.fraction square.now) }
+{
+    match found.last() {
+        Some(last) => { found.len() >= query.most() as usize && last.square.order(square).is_lt() }
         None => false,
     }
 }

@@ -1,6 +1,6 @@
 -- The distance of two geometries of any kind, by their figures and by their envelopes.
 use Rattle.std.proofs.Common.{◌≡◌, ◌↔◌, ℕ, sym, subst}
-use Rattle.std.specs.Prelude.{Bool, false, IsTrue, Option, IsSome, IfSome, Result, Ok, Err, IfOk}
+use Rattle.std.specs.Prelude.{Bool, false, IsTrue, Option, IsSome, IfSome, Result, IfOk}
 use Rattle.geom_core.specs.declared.shape.Shape.{Shape}
 use Rattle.plane_core.specs.Figures.{Figure}
 use Rattle.noding_core.proofs.TestLemmas.{clash}

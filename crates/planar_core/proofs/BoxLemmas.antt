@@ -1,6 +1,6 @@
 -- The squared distance of two boxes, a whole number, as a fraction.
 use Rattle.std.proofs.Common.{◌≡◌, ◌↔◌, ℕ, ◌*◌, ◌≤◌, arith, refl}
-use Rattle.std.specs.Prelude.{Option, Some, None, IsSome, IfSome}
+use Rattle.std.specs.Prelude.{Some, None, IsSome}
 use Rattle.plane_core.specs.Points.{Point}
 use Rattle.distance_core.specs.Distances.{AreWithin, IsSquaredDistance}
 use Rattle.distance_core.specs.Fractions.{IsLeastFraction}

@@ -1,4 +1,5 @@
 pub mod AnyLemmas
 pub mod BoxLemmas
 pub mod BoxTouchLemmas
+pub mod FractionLemmas
 pub mod TouchLemmas

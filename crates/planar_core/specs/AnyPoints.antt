@@ -1,8 +1,8 @@
 -- Geometries of any kind as sets of points of the plane.
 use Rattle.std.proofs.Common.{arith}
 use native.Mathlib.Decide.{dec_lt}
-use Rattle.std.specs.Prelude.{◌≡◌, ℕ, ◌*◌, ◌≤◌, ◌<◌, ℤ, pos, ◌*ℤ◌, ◌≤ℤ◌}
-use Rattle.std.proofs.Common.{sym, ◌∙◌}
+use Rattle.std.specs.Prelude.{◌≡◌, ℕ, ◌*◌, ◌≤◌, ◌<◌, pos, ◌*ℤ◌}
+use Rattle.std.proofs.Common.{◌∙◌}
 use Rattle.std.proofs.Math.Logic.{∥∥₁_elim}
 use Rattle.std.proofs.lemmas.Int.{by_lt_z}
 use Rattle.geom_core.specs.Shapes.{x1, y1, x2, y2}
@@ -85,3 +85,10 @@ any_in_range g h f positive is =
           omega (arith, few, more))))
       | no le ↦ omega (arith, le)
     ]
+
+-- and no two are beyond the greatest distance
+pub any_in_plane : (g h : AnyGeometry) → ¬ (¬ (AreWithin greatest_distance (HasPlace g) (HasPlace h)))
+any_in_plane g h beyond =
+    ∥∥₁_elim (is_geometry g) never_is_one (λ good_g.
+    ∥∥₁_elim (is_geometry h) never_is_one (λ good_h.
+    beyond (within_greatest (figure_of g) (figure_of h) good_g.0 good_h.0)))

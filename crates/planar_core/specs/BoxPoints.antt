@@ -1,13 +1,13 @@
 -- Boxes as sets of points of the plane.
 use Rattle.std.proofs.Common.{arith}
-use Rattle.std.specs.Prelude.{◌≡◌, ℕ, ◌*◌, ◌≤◌, ◌<◌, ℤ, pos, ◌*ℤ◌, ◌≤ℤ◌, ◌<ℤ◌, nat_abs}
+use Rattle.std.specs.Prelude.{◌≡◌, ℕ, ◌*◌, ◌≤◌, ◌<◌, ℤ, pos, ◌*ℤ◌, ◌≤ℤ◌, nat_abs}
 use Rattle.std.proofs.lemmas.Int.{ints}
 use Rattle.geom_core.specs.declared.span.Span.{Span}
 use Rattle.geom_core.specs.declared.shape.Shape.{Shape}
 use Rattle.plane_core.specs.Points.{Point, IsSamePlace}
 use Rattle.plane_core.proofs.Ring.{monomials}
 use Rattle.distance_core.specs.Limits.{greatest_distance}
-use Rattle.distance_core.specs.Distances.{difference, scaled_square, scale_of, AreWithin}
+use Rattle.distance_core.specs.Distances.{difference, AreWithin}
 use Rattle.distance_core.specs.ShapePoints.{HasNumber, HasPoint}
 use Rattle.distance_core.proofs.MeetingLemmas.{within_by_fraction}
 use Rattle.distance_core.proofs.RingLemmas.{le_cancelled, times_le}
@@ -82,3 +82,6 @@ pub boxes_in_range : (g h : Shape) (f : ℕ × ℕ) → 0 < f.1 → IsSquareOf f
 boxes_in_range g h f positive is =
     (within_by_fraction (HasPoint g) (HasPoint h) f.0 f.1 greatest_distance positive is).1
     (boxes_within g h)
+
+pub boxes_in_plane : (g h : Shape) → ¬ (¬ (AreWithin greatest_distance (HasPoint g) (HasPoint h)))
+boxes_in_plane g h beyond = beyond (boxes_within g h)

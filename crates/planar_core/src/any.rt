@@ -11,7 +11,7 @@ ghost use Rattle.planar_core.specs.Forms.{AreFormsOf};
 use crate::forms::Forms;
 use crate::planar::Planar;
 use any_geometry_core::AnyGeometry;
-use distance_core::{Distance, SquaredFraction, is_within};
+use distance_core::{Distance, SquaredDistance, SquaredFraction, is_within};
 use geometry_distance_core::{GeometryIndex, MeasuredGeometry, square_within};
 use layer_core::Geometry as _;
 use plane_core::Geometry;
@@ -22,6 +22,7 @@ use std::alloc::{AllocError, Global};
 impl Planar for AnyGeometry {
     ghost use Rattle.planar_core.specs.AnyPoints.{HasPlace, HasIndex};
     ghost use Rattle.planar_core.specs.AnyPoints.{in_envelope, any_at_place, any_in_range};
+    ghost use Rattle.planar_core.specs.AnyPoints.{any_in_plane};
 
     type Square = SquaredFraction;
 
@@ -58,11 +59,17 @@ impl Planar for AnyGeometry {
         square_between(alloc, first.geometry(), second.geometry(), forms, distance)
     }
 
+    fn square_of_boxes(_square: SquaredDistance) -> Option<SquaredFraction> {
+        None
+    }
+
     ghost in_box = { in_envelope };
 
     ghost at_place = { any_at_place };
 
     ghost in_range = { any_in_range };
+
+    ghost in_plane = { any_in_plane };
 }
 
 /// The square of the distance of two geometries, if they are at most a distance apart. One without

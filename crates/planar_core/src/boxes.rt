@@ -15,6 +15,7 @@ impl Planar for Shape {
     ghost use Rattle.planar_core.specs.Forms.{AreFormsOf};
     ghost use Rattle.planar_core.specs.Squares.{IsSquareOf};
     ghost use Rattle.planar_core.specs.BoxPoints.{in_itself, box_at_place, boxes_in_range};
+    ghost use Rattle.planar_core.specs.BoxPoints.{boxes_in_plane};
 
     type Square = SquaredDistance;
 
@@ -57,9 +58,16 @@ impl Planar for Shape {
         }
     }
 
+    #[inline(always)]
+    fn square_of_boxes(square: SquaredDistance) -> Option<SquaredDistance> {
+        Some(square)
+    }
+
     ghost in_box = { in_itself };
 
     ghost at_place = { box_at_place };
 
     ghost in_range = { boxes_in_range };
+
+    ghost in_plane = { boxes_in_plane };
 }

@@ -2,13 +2,13 @@
 
 use crate::forms::Forms;
 use crate::square::Square;
-use distance_core::Distance;
+use distance_core::{Distance, SquaredDistance};
 use layer_core::Geometry;
 use std::alloc::{AllocError, Global};
 
 /// A geometry that is a closed set of points of the plane, whose distances are exact.
 pub trait Planar: Geometry {
-    ghost use Rattle.std.specs.Prelude.{◌↔◌, ◌<◌, ◌≤◌, ◌*◌, ℕ, IfOk, IsSome, IfSome};
+    ghost use Rattle.std.specs.Prelude.{◌≡◌, ◌↔◌, ◌<◌, ◌≤◌, ◌*◌, ℕ, IfOk, IsSome, IfSome};
     ghost use Rattle.plane_core.specs.Points.{Point, IsSamePlace};
     ghost use Rattle.distance_core.specs.Units.{units_of};
     ghost use Rattle.distance_core.specs.Limits.{greatest_distance};
@@ -61,6 +61,15 @@ pub trait Planar: Geometry {
         ensures square { IfOk result (λ found. IfSome found (λ square.
             IsSquareOf (Self.Square.fraction square) (has_point first.now) (has_point second.now))) };
 
+    /// The square of the distance of two such geometries, if that of their boxes tells it.
+    fn square_of_boxes(square: SquaredDistance) -> Option<Self::Square>
+        // the same square
+        ensures value { IfSome result (λ s. Self.Square.fraction s ≡ (square, 1)) }
+        // which is that of the geometries
+        ensures exact { IfSome result (λ _. (g h : Self)
+            → IsSquareOf (square, 1) (HasPoint (Self.box_of g)) (HasPoint (Self.box_of h))
+            → IsSquareOf (square, 1) (has_point g) (has_point h)) };
+
     /// The box has all points.
     ghost in_box: { (g : Self) (p : Point) → 0 < p.w → has_point g p → HasPoint (Self.box_of g) p };
 
@@ -72,4 +81,8 @@ pub trait Planar: Geometry {
     ghost in_range: { (g h : Self) (f : ℕ × ℕ) → 0 < f.1
         → IsSquareOf f (has_point g) (has_point h)
         → f.0 ≤ (greatest_distance * greatest_distance) * f.1 };
+
+    /// None of two geometries is beyond this distance of the other.
+    ghost in_plane: { (g h : Self)
+        → ¬ (¬ (AreWithin greatest_distance (has_point g) (has_point h))) };
 }

@@ -1,15 +1,26 @@
 //! The squares of distances, as fractions of whole numbers.
 
 use distance_core::{SquaredDistance, SquaredFraction, rounded_root};
+use std::cmp::Ordering;
+use wide_core::Wide;
 
 /// The square of a distance, a fraction of two whole numbers, in square units of the grid.
 pub trait Square: Copy {
     ghost use Rattle.std.specs.Prelude.{◌≡◌, ◌≤◌, ◌<◌, ◌*◌, ◌↔◌, ℕ, IsTrue};
     ghost use Rattle.distance_core.specs.Limits.{greatest_distance};
     ghost use Rattle.distance_core.specs.FractionRoots.{IsRoundedFractionRoot};
+    ghost use Rattle.planar_core.specs.Squares.{IsLess, order_of};
 
     /// The numerator and the denominator.
     ghost fraction: { Self → ℕ × ℕ };
+
+    /// The order of two squares, which is that of the distances.
+    fn order(&self, other: &Self) -> Ordering
+        ensures { result ≡ order_of (fraction self.now) (fraction other.now) };
+
+    /// Whether the square is less than a whole number.
+    fn is_below(&self, whole: SquaredDistance) -> bool
+        ensures { IsTrue result ↔ IsLess (fraction self.now) (whole, 1) };
 
     /// Whether the square is 0.
     fn is_zero(&self) -> bool
@@ -27,9 +38,19 @@ pub trait Square: Copy {
 
 /// The squared distances of boxes are whole numbers.
 impl Square for SquaredDistance {
-    ghost use Rattle.planar_core.specs.Squares.{one_is_some};
+    ghost use Rattle.planar_core.specs.Squares.{one_is_some, whole};
 
-    ghost fraction = { λ n. (n, 1) };
+    ghost fraction = { whole };
+
+    #[inline(always)]
+    fn order(&self, other: &SquaredDistance) -> Ordering {
+        self.cmp(other)
+    }
+
+    #[inline(always)]
+    fn is_below(&self, whole: SquaredDistance) -> bool {
+        *self < whole
+    }
 
     #[inline(always)]
     fn is_zero(&self) -> bool {
@@ -45,9 +66,18 @@ impl Square for SquaredDistance {
 }
 
 impl Square for SquaredFraction {
-    ghost use Rattle.distance_core.specs.Fractions.{numerator_of};
+    ghost use Rattle.planar_core.specs.Squares.{fraction_of};
 
-    ghost fraction = { λ f. (numerator_of f, f.denominator) };
+    ghost fraction = { fraction_of };
+
+    fn order(&self, other: &SquaredFraction) -> Ordering {
+        self.compare(other)
+    }
+
+    fn is_below(&self, whole: SquaredDistance) -> bool {
+        let limit = Wide::product(whole, self.denominator);
+        self.numerator.compare(limit).is_lt()
+    }
 
     fn is_zero(&self) -> bool {
         self.numerator.is_zero()

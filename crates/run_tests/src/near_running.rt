@@ -6,9 +6,7 @@ use crate::join_running::{Ended, write};
 use file_core::Unreadable;
 use format_core::{AnyFormat, Layout};
 use near_core::Nearness;
-use near_run_core::{
-    AnyNearestJob, NearForm, NearJob, NearestJob, any_nearest_text, near_text, nearest_text,
-};
+use near_run_core::{NearForm, NearJob, NearestJob, near_text, nearest_text};
 use nearest_core::{Distance, Query};
 use pair_core::Options;
 use plane_core::Rings;
@@ -133,7 +131,11 @@ pub(crate) fn search<R: RandomSource + AllocGlobal + Threads + Wait + Sync>(
     let mut sources = opened(files);
     let mut marked = MarkedRows::none(rt.alloc());
     let refuse = Unreadable::Refuse;
-    let made = nearest_text(rt, &job, refuse, states, &mut sources, &mut marked);
+    let form = NearForm {
+        format: job.scale,
+        marks: Unmarked,
+    };
+    let made = nearest_text(rt, &job, form, refuse, states, &mut sources, &mut marked);
     ended(rt.alloc(), made)
 }
 
@@ -144,14 +146,19 @@ pub(crate) fn search_any<R: RandomSource + AllocGlobal + Threads + Wait + Sync>(
     most: u32,
     workers: u32,
 ) -> Option<Ended> {
-    let job = AnyNearestJob {
-        nearest: nearest_job(most, workers)?,
-        rings: Rings::Proper,
+    let job = nearest_job(most, workers)?;
+    let rings = Rings::Proper;
+    let form = NearForm {
+        format: AnyFormat {
+            scale: job.scale,
+            rings,
+        },
+        marks: ImproperRings { rings },
     };
     let states = (RandomState::new(rt).ok()?, RandomState::new(rt).ok()?);
     let mut sources = opened(files);
     let mut improper = MarkedRows::none(rt.alloc());
     let refuse = Unreadable::Refuse;
-    let made = any_nearest_text(rt, &job, refuse, states, &mut sources, &mut improper);
+    let made = nearest_text(rt, &job, form, refuse, states, &mut sources, &mut improper);
     ended(rt.alloc(), made)
 }

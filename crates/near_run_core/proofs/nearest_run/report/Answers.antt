@@ -1,5 +1,4 @@
 use Rattle.std.proofs.Common.{All, refl, subst, sym}
-use Rattle.distance_core.specs.ShapePoints.{HasPoint}
 use Rattle.near_run_core.specs.DistanceTexts.{HasSquare}
 use Rattle.near_run_core.proofs.NearestLemmas.{matches_measured}
 use Rattle.near_run_core.proofs.RunLemmas.{report_made}
@@ -9,8 +8,8 @@ pub report_by-requires-after_bounds : goal.report_by-requires-after_bounds
 report_by-requires-after_bounds g c κs within =
     let left = c.args.left.now.list in
     let right = c.args.right.now.list in
-    subst (All (HasSquare (λ n. (n, 1)) HasPoint left right)) (sym c.as_slice.ensures.value)
-    (matches_measured c.args.job.now.query left right c.len-left.ensures.layer c.len-right.ensures.layer _ c.in_ok-matches.ensures)
+    subst (All (HasSquare g.G.Square.Square.fraction g.G.Planar.has_point left right)) (sym c.as_slice.ensures.value)
+    (matches_measured g.G.Square.Square.fraction g.G.Planar.has_point c.args.job.now.query left right c.len-left.ensures.layer _ c.in_ok-matches.ensures)
 
 pub returns-clause-ok : goal.returns-clause-ok
 returns-clause-ok g c =

@@ -4,7 +4,7 @@ use Rattle.nearest_core.proofs.MatchLemmas.{part_added}
 use Rattle.nearest_core.proofs.layers.concatenated.Goals as goal
 
 pub loop-part-preserved : goal.loop-part-preserved
-loop-part-preserved c =
+loop-part-preserved g c =
     let before = c.loop-part.invariant in
     let part = c.in-Some.part in
     let yielded = c.loop-part.yielded in

@@ -5,7 +5,7 @@ use Rattle.nearest_core.specs.Matches.{matches_or_none}
 use Rattle.nearest_core.proofs.layers.concatenated.Given as goal
 
 abbrev pub invariant-loop-part : goal.invariant-loop-part
-invariant-loop-part l = record {
+invariant-loop-part g l = record {
   parts : l.yielded ++ into_iter_items l.part-iterator ≡ l.fn.parts.items;
   whole : All IsOk l.yielded;
   matches : l.all.items ≡ flat_map matches_or_none l.yielded;

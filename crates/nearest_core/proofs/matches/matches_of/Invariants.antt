@@ -2,5 +2,6 @@ use Rattle.std.proofs.Common.{take}
 use Rattle.nearest_core.specs.Matches.{AreMatchesOf}
 use Rattle.nearest_core.proofs.matches.matches_of.Given as goal
 
-abbrev pub invariant-loop-left : goal.invariant-loop-left
-invariant-loop-left l = AreMatchesOf l.query l.right.list (take l.left-index l.lefts) l.matches.items
+abbrev pub invariant-loop-number : goal.invariant-loop-number
+invariant-loop-number g l =
+    AreMatchesOf g.G.Square.Square.fraction g.G.Planar.has_point l.query l.right l.left.list (take l.number-index l.numbers) l.matches.items

@@ -1,7 +1,6 @@
-use Rattle.std.proofs.Common.{arith, subst, ◌∙◌}
+use Rattle.std.proofs.Common.{arith, ◌∙◌}
 use Rattle.distance_core.specs.ShapePoints.{HasPoint, IsPointOf}
 use Rattle.distance_core.specs.Fractions.{numerator_of}
-use Rattle.plane_core.specs.declared.part.Part.TheVariants.{Exterior}
 use Rattle.plane_core.proofs.PartScaleLemmas.{part_of-same_place}
 use Rattle.planar_core.specs.BoxPoints.{box_at_place}
 use Rattle.planar_core.proofs.BoxLemmas.{as_fraction}
