@@ -1,10 +1,9 @@
 -- From a point off the boundary of an area to the next node of an edge, or to the piece before it, the
 -- part stays the same.
 use Rattle.std.proofs.Common.{◌≡◌, ◌≢◌, ◌≤◌, ◌<◌, ◌-◌, inl, inr, arith, sym, subst, ap, ◌∙◌, true, false, suc, zero, List, [], ◌∷◌, ◌++◌, map, take, get_or, length, All}
-use Rattle.std.specs.Prelude.{ℕ, Bool, if◌then◌else◌, count_by, Option, None, Some, IfSome, ℤ, pos, nat_abs, ◌*ℤ◌, ◌&&◌}
+use Rattle.std.specs.Prelude.{ℕ, Bool, if◌then◌else◌, count_by, Option, None, Some, IfSome}
 use Rattle.std.specs.List.{list_any}
-use Rattle.std.specs.Ordering.{int_eq, is_lt}
-use Rattle.std.proofs.lemmas.Int.{ints}
+use Rattle.std.specs.Ordering.{is_lt}
 use Rattle.std.proofs.lemmas.List.{get_or_default}
 use Rattle.std.proofs.lemmas.List.Elements.{All-head}
 use Rattle.std.proofs.Math.Seq.{take-append_seam}
@@ -15,18 +14,16 @@ use Rattle.plane_core.specs.declared.part.Part.{Part}
 use Rattle.plane_core.specs.declared.part.Part.TheVariants.{Interior, Boundary, Exterior}
 use Rattle.plane_core.specs.declared.vertex.Vertex.{Vertex}
 use Rattle.plane_core.specs.declared.edge.Edge.{Edge}
-use Rattle.plane_core.specs.declared.place.Place.{Place}
 use Rattle.plane_core.specs.declared.node.Node.{Node}
 use Rattle.plane_core.specs.declared.outline.Kind.{Kind}
 use Rattle.plane_core.specs.declared.outline.Kind.TheVariants.{Points as Dots, Lines as Polylines, Areas as Rings}
 use Rattle.plane_core.specs.declared.outline.Outline.{Outline}
-use Rattle.plane_core.specs.Points.{Point, is_on, is_below, IsBefore, IsSamePlace, is_at}
-use Rattle.plane_core.specs.Places.{point_of, node_point, place_order}
+use Rattle.plane_core.specs.Points.{Point, is_on, is_below, IsBefore, IsSamePlace}
+use Rattle.plane_core.specs.Places.{node_point, place_order}
 use Rattle.plane_core.specs.Figures.{Figure, HasLength, IsGeometry, edges_of, part_of, is_odd}
 use Rattle.plane_core.specs.Figures.Figure.{Points, Lines, Areas}
 use Rattle.plane_core.specs.Outlines.{outline_part, part_by, kind_of}
 use Rattle.plane_core.specs.PlaneMatrices.{entry}
-use Rattle.plane_core.proofs.Ring.{one-times}
 use Rattle.plane_core.proofs.OutlineLemmas.{outline_part-is, outline_above-is}
 use Rattle.noding_core.specs.Gathered.{Extends}
 use Rattle.noding_core.specs.Marks.{rank}
@@ -42,10 +39,10 @@ use Rattle.noding_core.proofs.NodeLemmas.{all_among, gap_first, gap_second}
 use Rattle.noding_core.proofs.OffPartLemmas.{off_part-is}
 use Rattle.noding_core.proofs.PathLemmas.{edge_length}
 use Rattle.noding_core.proofs.ReadOffLemmas.{before_order, map_among}
-use Rattle.noding_core.proofs.TestLemmas.{by_test, clash, first_holds, second_holds}
+use Rattle.noding_core.proofs.TestLemmas.{by_test, clash}
 use Rattle.shown_core.specs.Beyond.{IsBounded}
 use Rattle.shown_core.specs.Lying.{LiesOff}
-use Rattle.arrangement_core.specs.Seen.{AreNear, is_vertex}
+use Rattle.arrangement_core.specs.Seen.{AreNear}
 use Rattle.shown_core.specs.Shown.{IsOnEdge, IsUncrossed, AreCuts, AreNext}
 use Rattle.shown_core.proofs.BeyondLemmas.{none_on}
 use Rattle.arrangement_core.proofs.ClearLemmas.{no_points, above_off}
@@ -191,6 +188,10 @@ ascend_at ns (suc j) k l one lt ek el up = next ns j lt (subst (λ (i : ℕ). k 
         subst (λ (x : Node). IsUpTo (node_point x) (node_point l)) (sym ek) (subst (λ (x : Node). IsUpTo (node_point m) (node_point x)) (sym el) (All-head (IsUpTo (node_point m)) (node_point n) (map node_point ns) up.0))
     next (m ∷ n ∷ ns) (suc j) lt ek el up = next (n ∷ ns) j (omega arith) ek el up.1
 
+-- an item of a list of which all have a property
+pub all_item : (P : Node → Type 0) (ns : List Node) (i : ℕ) (n : Node) → All P ns → i < length ns → n ≡ get_or ns i n → P n
+all_item P ns i n all lt is = subst P (sym is) (all i n lt)
+
 -- one node by its index
 pub same_item : (ns : List Node) (i j : ℕ) (k n : Node) → i ≡ j → j < length ns → k ≡ get_or ns i k → n ≡ get_or ns j n → n ≡ k
 same_item ns i j k n is lt ek en = en ∙ get_or_default ns j n k lt ∙ ap (λ (m : ℕ). get_or ns m k) (sym is) ∙ sym ek
@@ -241,19 +242,6 @@ some_nodes own other e (n ∷ ns) cuts = more (length ns)
   where
     more : (m : ℕ) → 0 < suc m
     more m = omega arith
-
--- a point that is written as a vertex is at it
-pub vertex_at : (p : Place) (v : Vertex) → is_vertex p v ≡ true → is_at v (point_of p) ≡ true
-vertex_at p v h =
-    let one = equal p.w (pos 1) (first_holds _ _ (first_holds _ _ h)) in
-    both p.x p.y v.x v.y _ _ (ap (λ (w : ℤ). pos (nat_abs w) *ℤ v.x) one ∙ one-times v.x) (ap (λ (w : ℤ). pos (nat_abs w) *ℤ v.y) one ∙ one-times v.y)
-    (equal p.x v.x (second_holds (int_eq p.w (pos 1)) _ (first_holds _ _ h))) (equal p.y v.y (second_holds (int_eq p.w (pos 1) && int_eq p.x v.x) _ h))
-  where
-    equal : (m n : ℤ) → int_eq m n ≡ true → m ≡ n
-    equal m n h = grind (arith, ints)
-
-    both : (x y a b u v : ℤ) → u ≡ a → v ≡ b → x ≡ a → y ≡ b → (int_eq x u && int_eq y v) ≡ true
-    both x y a b u v h k g l = grind (arith, ints)
 
 pub near_off : (o : Outline) (e : Edge) (near : List Edge) (p : Point) → AreNear o e near → 0 < p.w → is_on e p ≡ true → list_any (λ f. is_on f p) near ≡ false → list_any (λ f. is_on f p) o.edges.items ≡ false
 near_off o e near p h wide on off = none_any (λ f. is_on f p) o.edges.items

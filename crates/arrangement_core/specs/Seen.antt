@@ -1,10 +1,8 @@
 -- What is known of a vertex, a point or an edge by the edges of the other geometry near it.
-use Rattle.std.specs.Prelude.{◌≡◌, pos, Bool, true, ◌&&◌, List, All}
-use Rattle.std.specs.Ordering.{int_eq}
+use Rattle.std.specs.Prelude.{◌≡◌, true, List, All}
 use Rattle.geom_core.specs.declared.shape.Shape.{Shape}
 use Rattle.plane_core.specs.declared.edge.Edge.{Edge}
 use Rattle.plane_core.specs.declared.outline.Outline.{Outline}
-use Rattle.plane_core.specs.declared.place.Place.{Place}
 use Rattle.plane_core.specs.declared.vertex.Vertex.{Vertex}
 use Rattle.plane_core.specs.Points.{Point, at, is_at}
 use Rattle.plane_core.specs.Outlines.{outline_part}
@@ -15,10 +13,6 @@ use Rattle.shown_core.specs.declared.course.Course.{Course}
 use Rattle.shown_core.specs.Lying.{LiesIn, IsKnownIn}
 use Rattle.shown_core.specs.Shown.{IsKnownApart}
 use Rattle.arrangement_core.specs.declared.known.Seen.{Seen}
-
--- the coordinates of a point are written as those of a vertex
-abbrev pub is_vertex : Place → Vertex → Bool
-is_vertex p v = int_eq p.w (pos 1) && int_eq p.x v.x && int_eq p.y v.y
 
 -- the part of a vertex is known
 abbrev pub IsSeen : Outline → Seen → Type 0

@@ -5,7 +5,6 @@ ghost use Rattle.edge_index_core.specs.Beyond.{is_beyond};
 ghost use Rattle.plane_core.specs.Places.{point_of};
 ghost use Rattle.arrangement_core.specs.Seen.{IsOutside};
 
-use crate::walk::is_vertex;
 use edge_index_core::is_beyond;
 use geom_core::Shape;
 use plane_core::{Edge, Place, Vertex};
@@ -22,9 +21,9 @@ pub(crate) fn is_outside(v: &Vertex, bounds: &Shape) -> bool
 pub(crate) fn is_end_outside(e: &Edge, p: &Place, bounds: &Shape) -> bool
     ensures { IsTrue result → IsOutside bounds.now (point_of p.now) }
 {
-    if is_vertex(p, &e.a) {
+    if p.is_at(&e.a) {
         is_outside(&e.a, bounds)
-    } else if is_vertex(p, &e.b) {
+    } else if p.is_at(&e.b) {
         is_outside(&e.b, bounds)
     } else {
         false

@@ -6,9 +6,8 @@
 //! edge, the part from there on is the other one.
 
 ghost use Rattle.std.specs.Prelude.{◌≡◌, ◌≢◌, ◌<◌, ◌≤◌, [], ◌∷◌, ◌++◌, map, length, true, false};
-ghost use Rattle.std.specs.Prelude.{IsTrue, IfSome};
+ghost use Rattle.std.specs.Prelude.{IsTrue, IfSome, All};
 ghost use Rattle.std.specs.List.{list_any, slice_index_or};
-ghost use Rattle.std.specs.Ordering.{int_eq};
 ghost use Rattle.relation_core.specs.declared.extent.Extent.TheVariants.{Point as Dot};
 ghost use Rattle.plane_core.specs.Points.{is_on};
 ghost use Rattle.plane_core.specs.Places.{point_of, node_point};
@@ -17,9 +16,10 @@ ghost use Rattle.plane_core.specs.PlaneMatrices.{entry};
 ghost use Rattle.shown_core.specs.Beyond.{IsBounded};
 ghost use Rattle.shown_core.specs.Lying.{IsKnownIn, LiesOff};
 ghost use Rattle.arrangement_core.specs.Crossed.{LiesAfter, LiesBefore};
-ghost use Rattle.arrangement_core.specs.Seen.{IsCourseIn, AreNear, is_vertex};
+ghost use Rattle.arrangement_core.specs.Seen.{IsCourseIn, AreNear};
 ghost use Rattle.shown_core.specs.Shown.{IsOnEdge, IsOnCourse, IsUncrossed, AreCuts, AreNext};
 ghost use Rattle.noding_core.specs.Marks.{rank};
+ghost use Rattle.noding_core.specs.Gathered.{IsOn};
 ghost use Rattle.noding_core.specs.Nodes.{NodedEdge};
 ghost use Rattle.noding_core.specs.Growth.{HasGrownBy, mark_at, mark_in, piece_marks, gap_marks};
 ghost use Rattle.noding_core.specs.Growth.{edge_marks};
@@ -30,7 +30,7 @@ use crate::outside::is_end_outside;
 use crate::pair::Pair;
 use edge_index_core::IndexedOutline;
 use noding_core::raised;
-use plane_core::{Edge, Kind, Node, Part, Place, Spot, Standing, Vertex};
+use plane_core::{Edge, Kind, Node, Part, Place, Spot, Standing};
 use relation_core::{Extent, Matrix};
 use shown_core::{Course, is_piece_shown, is_place_shown, part_on_edge, standing_of};
 
@@ -55,38 +55,19 @@ fn part_off(kind: Kind, part: Part) -> Option<Part>
     }
 }
 
+/// Whether a point is an end of an edge.
 #[inline]
-fn is_equal(z: i128, a: i64) -> bool
-    ensures { result ≡ int_eq z a }
+fn is_end(e: &Edge, p: &Spot) -> bool
+    ensures { IsTrue result → is_on e.now (point_of p.now.place) ≡ true }
 {
-    z == i128::from(a)
-}
-
-/// Whether the coordinates of a point are written as those of a vertex. Then it is at the vertex.
-#[inline]
-pub(crate) fn is_vertex(p: &Place, v: &Vertex) -> bool
-    ensures { result ≡ is_vertex p.now v.now }
-{
-    is_equal(p.w, 1) && is_equal(p.x, v.x) && is_equal(p.y, v.y)
-}
-
-/// Whether a point is written as an end of an edge.
-#[inline]
-fn is_end(e: &Edge, p: &Place) -> bool
-    ensures { IsTrue result → is_on e.now (point_of p.now) ≡ true }
-{
-    if is_vertex(p, &e.a) {
-        true
-    } else {
-        is_vertex(p, &e.b)
-    }
+    if p.is_at(&e.a) { true } else { p.is_at(&e.b) }
 }
 
 /// Whether a point is on an edge.
 pub(crate) fn is_on(e: &Edge, p: &Spot) -> bool
     ensures { result ≡ is_on e.now (point_of p.now.place) }
 {
-    if is_end(e, &p.place) {
+    if is_end(e, p) {
         true
     } else {
         p.lie_of(e).is_on
@@ -333,6 +314,8 @@ fn step(
     requires near { AreNear pair.now.second.now course.now.edge near.now }
     requires next { let a = pair.now.first.now in let b = pair.now.second.now in
         AreNext a b course.now.edge (node_point k.now) (node_point l.now) }
+    requires first { IsOn course.now.edge k.now }
+    requires second { IsOn course.now.edge l.now }
     requires here { let a = pair.now.first.now in let b = pair.now.second.now in
         let p = node_point k.now in
         1 ≤ rank (entry walk.matrix (outline_part a p) (outline_part b p)) }
@@ -380,6 +363,7 @@ pub(crate) fn mark_noded(
     requires near { AreNear pair.now.second.now course.now.edge near.now }
     requires cuts { let a = pair.now.first.now in let b = pair.now.second.now in
         AreCuts a b course.now.edge (map node_point nodes.now) }
+    requires on { All (IsOn course.now.edge) nodes.now }
     ensures { let a = pair.now.first.now in let b = pair.now.second.now in
         let ns = map node_point nodes.now in
         let noded : NodedEdge = record { edge = course.now.edge; nodes = ns } in

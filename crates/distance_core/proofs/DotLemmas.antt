@@ -11,8 +11,8 @@ use Rattle.plane_core.specs.Points.{at, run, rise}
 use Rattle.plane_core.proofs.HeldLemmas.{held, held_way, held_turn, product_fits}
 use Rattle.distance_core.specs.Frames.{along}
 
-product_below : (a b : ℤ) → nat_abs a ≤ 2 * greatest_coordinate → nat_abs b ≤ 2 * greatest_coordinate → nat_abs a * nat_abs b ≤ 4000000000000000000000000
-product_below a b ha hb = let l = mul-le-mul ha hb in omega arith
+product_below : (a b : ℤ) → nat_abs a ≤ 2 * greatest_coordinate → nat_abs b ≤ 2 * greatest_coordinate → nat_abs a * nat_abs b ≤ (2 * greatest_coordinate) * (2 * greatest_coordinate)
+product_below a b ha hb = mul-le-mul ha hb
 
 narrow : (a b : ℤ) → nat_abs a ≤ 2 * greatest_coordinate → nat_abs b ≤ 2 * greatest_coordinate → nat_abs a * nat_abs b ≤ 2 ^ 125
 narrow a b ha hb = omega (arith, product_below a b ha hb)
@@ -24,7 +24,7 @@ module _ (a b c d : ℤ) (ha : nat_abs a ≤ 2 * greatest_coordinate) (hb : nat_
     (hc : nat_abs c ≤ 2 * greatest_coordinate) (hd : nat_abs d ≤ 2 * greatest_coordinate) where
   pub dot_below : nat_abs (a *ℤ b +ℤ c *ℤ d) ≤ greatest_turn
   dot_below =
-      sum_below (a *ℤ b) (c *ℤ d) 4000000000000000000000000 4000000000000000000000000
+      sum_below (a *ℤ b) (c *ℤ d) ((2 * greatest_coordinate) * (2 * greatest_coordinate)) ((2 * greatest_coordinate) * (2 * greatest_coordinate))
       (omega (arith, unsigned_abs-mul a b, product_below a b ha hb)) (omega (arith, unsigned_abs-mul c d, product_below c d hc hd))
 
   held_sum : to_z w128 (of_z w128 (to_z w128 (of_z w128 a) *ℤ to_z w128 (of_z w128 b)))

@@ -9,10 +9,9 @@ use Rattle.plane_core.specs.Points.{Point, at, side, run, rise, is_on, is_at}
 use Rattle.plane_core.proofs.Ring.{monomials}
 use Rattle.plane_core.proofs.Signs.{weak}
 use Rattle.plane_core.proofs.HeldLemmas.{abs_positive, held_turn}
-use Rattle.plane_core.proofs.NodeLemmas.{coordinate_size}
-use Rattle.plane_core.specs.Limits.{greatest_coordinate, greatest_turn, IsCoordinate}
+use Rattle.plane_core.specs.Limits.{greatest_turn, IsCoordinate}
 use Rattle.std.specs.Int.{w128}
-use Rattle.distance_core.specs.Limits.{greatest_square}
+use Rattle.distance_core.specs.Limits.{greatest_gap, greatest_square}
 use Rattle.std.proofs.lemmas.Nat.{mul-le}
 use Rattle.std.proofs.Math.Nat.{mul-le-mul_right}
 use Rattle.distance_core.specs.Distances.{square, scaled_square, scale_of}
@@ -228,16 +227,16 @@ foot_least n d v e over within is_n is_d = vertex_least n d v (IsOnEdge e)
     far_plain n d l s hn hd = rw (hn, hd) (simp monomials)
 
 -- no two vertices are further apart than the ends of the plane
-square_below : (a b : ℤ) → IsCoordinate a → IsCoordinate b → nat_abs (a *ℤ pos 1 -ℤ b *ℤ pos 1) * nat_abs (a *ℤ pos 1 -ℤ b *ℤ pos 1) ≤ 4000000000000000000000000
-square_below a b ha hb = let l = mul-le _ _ 2000000000000 2000000000000 (both a b (coordinate_size a ha) (coordinate_size b hb)) (both a b (coordinate_size a ha) (coordinate_size b hb)) in omega (arith, l)
+square_below : (a b : ℤ) → IsCoordinate a → IsCoordinate b → nat_abs (a *ℤ pos 1 -ℤ b *ℤ pos 1) * nat_abs (a *ℤ pos 1 -ℤ b *ℤ pos 1) ≤ greatest_gap * greatest_gap
+square_below a b ha hb = let l = mul-le _ _ greatest_gap greatest_gap (both a b ha hb) (both a b ha hb) in omega (arith, l)
   where
-    both : (a b : ℤ) → nat_abs a ≤ greatest_coordinate → nat_abs b ≤ greatest_coordinate → nat_abs (a *ℤ pos 1 -ℤ b *ℤ pos 1) ≤ 2000000000000
-    both a b h k = omega (arith, ints, h, k)
+    both : (a b : ℤ) → IsCoordinate a → IsCoordinate b → nat_abs (a *ℤ pos 1 -ℤ b *ℤ pos 1) ≤ greatest_gap
+    both a b h k = let l = h.0 in let m = h.1 in let n = k.0 in let o = k.1 in omega (arith, ints, l, m, n, o)
 
 pub vertices_below : (v w : Vertex) → scaled_square (at v) (at w) ≤ greatest_square
 vertices_below v w = plain _ _ (square_below v.x w.x v.x_in_range w.x_in_range) (square_below v.y w.y v.y_in_range w.y_in_range)
   where
-    plain : (m n : ℕ) → m ≤ 4000000000000000000000000 → n ≤ 4000000000000000000000000 → m + n ≤ greatest_square
+    plain : (m n : ℕ) → m ≤ greatest_gap * greatest_gap → n ≤ greatest_gap * greatest_gap → m + n ≤ greatest_square
     plain m n h k = omega (arith, h, k)
 
 -- nor is one further from the foot of its perpendicular

@@ -9,4 +9,5 @@ pub mod GapLemmas
 pub mod LeastLemmas
 pub mod MeetingLemmas
 pub mod RingLemmas
+pub mod RootLemmas
 pub mod SquareLemmas

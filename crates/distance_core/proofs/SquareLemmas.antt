@@ -7,6 +7,7 @@ use Rattle.std.proofs.Math.Nat.{mul-le-mul_right, le_of_mul-le-mul_right, one-le
 use Rattle.geom_core.specs.declared.shape.Shape.{Shape}
 use Rattle.plane_core.specs.Points.{Point}
 use Rattle.distance_core.specs.Distances.{difference, square, scale_of, IsAtLeast, ReachWithin, AreWithin, IsSquaredDistance}
+use Rattle.distance_core.specs.Limits.{greatest_gap}
 use Rattle.distance_core.specs.ShapePoints.{HasPoint}
 use Rattle.distance_core.specs.Gaps.{IsGap}
 
@@ -42,8 +43,8 @@ module _ (a b : Shape) (dx dy : ℕ) (along_x : IsGap a.x b.x dx) (along_y : IsG
   squared_distance_of n is = subst (λ (m : ℕ). IsSquaredDistance m (HasPoint a) (HasPoint b)) (sym is) (record { reached = reached; least = least })
 
 -- the squares of two numbers that are at most the side of the plane
-pub square_bound : (g : ℕ) → g ≤ 2000000000000 → g * g ≤ 4000000000000000000000000
-square_bound g h = mul-le g g 2000000000000 2000000000000 h h
+pub square_bound : (g : ℕ) → g ≤ greatest_gap → g * g ≤ greatest_gap * greatest_gap
+square_bound g h = mul-le g g greatest_gap greatest_gap h h
 
 pub wide_scale : (p q : Point) → 0 < p.w → 0 < q.w → 0 < scale_of p q
 wide_scale p q h k = let one = one-le-mul {a = p.w} {b = q.w} (omega arith) (omega arith) in one-le-mul one one

@@ -21,7 +21,7 @@ pub fn squared_distance(a: &Shape, b: &Shape) -> SquaredDistance
     // the least squared distance of a point of the one closed shape and a point of the other: two
     // points reach it, and no two are nearer
     ensures least { IsSquaredDistance result (HasPoint a.now) (HasPoint b.now) }
-    // at most 8,000,000,000,000,000,000,000,000
+    // at most 8,000,000,000,000,000,000,000,000,000,000,000,000
     ensures bound { result ≤ greatest_square }
 {
     let dx = gap(a.x(), b.x());

@@ -4,7 +4,7 @@ ghost use Rattle.std.specs.Prelude.{◌≤◌};
 ghost use Rattle.distance_core.specs.Limits.{greatest_distance};
 
 /// The greatest distance, in units: any two points of the plane are at most this far apart.
-pub const MAX_DISTANCE: u64 = 4_000_000_000_000;
+pub const MAX_DISTANCE: u64 = 4_000_000_000_000_000_000;
 
 /// A distance of 0 to [`MAX_DISTANCE`] units.
 #[derive(Clone, Copy, PartialEq, Eq)]
@@ -19,7 +19,7 @@ impl Distance {
 
     /// The distance of this number of units, or `None` if it is more than [`MAX_DISTANCE`].
     pub fn new(units: u64) -> Option<Distance>
-        // Some exactly for 0 to 4,000,000,000,000 units
+        // Some exactly for 0 to 4,000,000,000,000,000,000 units
         ensures some { IsSome result ↔ units ≤ greatest_distance }
         // it has these
         ensures units { IfSome result (λ d. units_of d ≡ units) }
@@ -36,7 +36,7 @@ impl Distance {
     pub fn units(self) -> u64
         // how many
         ensures units { result ≡ units_of self }
-        // at most 4,000,000,000,000
+        // at most 4,000,000,000,000,000,000
         ensures few { result ≤ greatest_distance }
     {
         self.units

@@ -1,13 +1,16 @@
 //! The square of a distance, as a fraction.
 
-ghost use Rattle.std.specs.Prelude.{◌≡◌, ◌≤◌, ◌<◌, ◌*◌, ◌↔◌, IsTrue};
+ghost use Rattle.std.specs.Prelude.{◌≡◌, ◌≤◌, ◌<◌, ◌-◌, ◌*◌, ◌↔◌, IsTrue};
 ghost use Rattle.wide_core.specs.Wides.{value_of};
-ghost use Rattle.distance_core.specs.Limits.{greatest_square};
+ghost use Rattle.distance_core.specs.Limits.{greatest_distance, greatest_square};
 
-use crate::times::times;
+use crate::root::floor_root;
 use crate::{Distance, MAX_DISTANCE};
 use std::cmp::Ordering;
-use wide_core::Wide;
+use wide_core::{Wide, compare_multiples};
+
+/// A root that most bisections stay below, so that they take fewer steps.
+const SMALL_ROOT: u64 = 1 << 42;
 
 /// The square of a distance, `numerator / denominator`, in square units of the grid: at most twice
 /// the square of twice [`LIMIT`](geom_core::LIMIT).
@@ -48,9 +51,8 @@ impl SquaredFraction {
         ensures { result ≡ nat_cmp (numerator_of self.now * other.now.denominator)
             (numerator_of other.now * self.now.denominator) }
     {
-        let left = times(self.numerator, other.denominator);
-        let right = times(other.numerator, self.denominator);
-        left.compare(right)
+        let (n, d) = (self.numerator, self.denominator);
+        compare_multiples(n, other.denominator, other.numerator, d)
     }
 
     /// Whether the square is at most a whole number.
@@ -72,20 +74,59 @@ impl SquaredFraction {
 
     /// Whether the root of the square is at least `root - 1/2`.
     fn is_root_from(&self, root: u64) -> bool
-        requires { root ≤ 4000000000000 }
+        requires { root ≤ greatest_distance }
         ensures { IsTrue result ↔ IsRootFrom (numerator_of self.now) self.now.denominator root }
     {
         let least = u128::from((2 * root).saturating_sub(1));
         let limit = Wide::product(least * least, self.denominator);
-        limit.compare(times(self.numerator, 4)).is_le()
+        limit.compare(self.numerator.times(4)).is_le()
     }
 
     /// The distance, the square root, rounded to the nearest whole number, half up.
     pub fn rounded_root(&self) -> u64
         ensures { IsRoundedFractionRoot (numerator_of self.now) self.now.denominator result }
     {
+        if self.numerator.high == 0 {
+            self.narrow_root()
+        } else {
+            self.wide_root()
+        }
+    }
+
+    /// The rounded root where the numerator has at most 128 bits: the root of the whole part,
+    /// rounded down, or one more.
+    fn narrow_root(&self) -> u64
+        requires { self.now.numerator.high ≡ 0 }
+        ensures { IsRoundedFractionRoot (numerator_of self.now) self.now.denominator result }
+    {
+        let root = floor_root(self.numerator.low / self.denominator) as u64;
+        if self.is_root_from(root + 1) {
+            root + 1
+        } else {
+            root
+        }
+    }
+
+    /// A number above the rounded root: a small one if there is.
+    fn number_above_root(&self) -> u64
+        ensures above { 4 * numerator_of self.now
+            < ((2 * result - 1) * (2 * result - 1)) * self.now.denominator }
+        ensures some { 0 < result }
+        ensures few { result ≤ greatest_distance }
+    {
+        if self.is_root_from(SMALL_ROOT) {
+            MAX_DISTANCE
+        } else {
+            SMALL_ROOT
+        }
+    }
+
+    /// The rounded root, by bisection.
+    fn wide_root(&self) -> u64
+        ensures { IsRoundedFractionRoot (numerator_of self.now) self.now.denominator result }
+    {
         let mut root = 0;
-        let mut above = MAX_DISTANCE;
+        let mut above = self.number_above_root();
         while root + 1 < above {
             let middle = (root + above) / 2;
             if self.is_root_from(middle) {

@@ -11,7 +11,6 @@ mod laws;
 mod nearness;
 mod query;
 mod root;
-mod times;
 mod vector;
 
 pub use apart::{SquaredDistance, is_within, squared_distance};

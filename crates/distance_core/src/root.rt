@@ -15,7 +15,7 @@ pub fn rounded_root(square: u128) -> u64
 
 /// The greatest whole number that is at most the square root. The fewer bits a number type has, the
 /// fewer steps its root takes, and most squares are small.
-fn floor_root(square: u128) -> u128
+pub(crate) fn floor_root(square: u128) -> u128
     ensures square_le { result * result ≤ square }
     ensures next_square_gt { square < (result + 1) * (result + 1) }
     ensures bound { result < 2 ^ 64 }

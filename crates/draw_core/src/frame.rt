@@ -10,7 +10,7 @@ use plane_core::Vertex;
 use std::marker::Model;
 
 /// The greatest height at which a frame is drawn, twice the picture's width of 1,000.
-const MAX_HEIGHT: u64 = 2000;
+const MAX_HEIGHT: u128 = 2000;
 
 /// The part of the plane that a picture shows: the cover of all boxes, with a margin around it.
 ///
@@ -137,7 +137,8 @@ impl Frame {
         ensures height { result ≡ drawn_height self.now }
         ensures bound { result ≤ 2000 }
     {
-        (1000 * self.height).div_ceil(self.width).min(MAX_HEIGHT)
+        let scaled = 1000 * u128::from(self.height);
+        scaled.div_ceil(u128::from(self.width)).min(MAX_HEIGHT) as u64
     }
 
     /// The width of the frame, in units of the grid.

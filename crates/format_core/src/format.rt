@@ -1,8 +1,12 @@
 //! How the files of layers read: their layout, and the texts of their geometries.
 
+ghost use Rattle.std.specs.Prelude.{IfOk};
+ghost use Rattle.format_core.specs.Formats.{SpellsAny};
+
 use crate::layout::Layout;
 use crate::text_fault::TextFault;
 use geom_core::Shape;
+use plane_core::Rings;
 use std::alloc::{AllocError, Global};
 use wkt_core::Scale;
 
@@ -44,7 +48,22 @@ impl Format for Scale {
     }
 
     #[inline(always)]
-    fn read(&self, _alloc: Global, text: &[u8]) -> Result<Result<Shape, TextFault>, AllocError> {
-        Ok(wkt_core::read(text, *self).map_err(TextFault::Wkt))
+    fn read(&self, alloc: Global, text: &[u8]) -> Result<Result<Shape, TextFault>, AllocError> {
+        match wkt_core::read(text, *self) {
+            Ok(shape) => Ok(Ok(shape)),
+            Err(fault) => {
+                let any = spells_any(alloc, text, *self)?;
+                Ok(Err(TextFault::Wkt(fault, any)))
+            }
+        }
     }
+}
+
+/// Whether a text spells a geometry of any kind, with proper rings.
+#[inline(never)]
+fn spells_any(alloc: Global, text: &[u8], scale: Scale) -> Result<bool, AllocError>
+    ensures { IfOk result (SpellsAny scale text.now) }
+{
+    let read = geometry_text_core::read(alloc, text, scale, Rings::Proper)?;
+    Ok(read.is_ok())
 }

@@ -113,7 +113,7 @@ impl Shape {
     pub fn area(&self) -> Area
         // width times height
         ensures product { result ≡ area_of self.now }
-        // at most 4,000,000,000,000,000,000,000,000
+        // at most 4,000,000,000,000,000,000,000,000,000,000,000,000
         ensures bound { result ≤ greatest_area }
     {
         self.x.length() * self.y.length()

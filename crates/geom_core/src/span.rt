@@ -6,7 +6,7 @@ ghost use Rattle.geom_core.specs.Limits.{greatest_coordinate};
 use crate::shape::Area;
 
 /// The greatest absolute value of a coordinate.
-pub const LIMIT: i64 = 1_000_000_000_000;
+pub const LIMIT: i64 = 1_000_000_000_000_000_000;
 
 /// A closed interval of one axis, within `-LIMIT` to `LIMIT`.
 #[derive(Clone, Copy, Debug, PartialEq, Eq)]

@@ -14,7 +14,7 @@ use Rattle.noding_core.proofs.AmongLemmas.{among_flat}
 use Rattle.noding_core.proofs.FlipLemmas.{is_at-itself}
 use Rattle.noding_core.proofs.NodeLemmas.{all_among}
 use Rattle.noding_core.proofs.OffPartLemmas.{first_on}
-use Rattle.distance_core.specs.Limits.{greatest_distance}
+use Rattle.distance_core.specs.Limits.{greatest_distance, greatest_gap}
 use Rattle.distance_core.specs.Distances.{difference, scaled_square, scale_of, AreWithin}
 use Rattle.distance_core.specs.ShapePoints.{IsPointOf}
 use Rattle.distance_core.proofs.SquareLemmas.{square_bound}
@@ -55,7 +55,7 @@ some_vertex (Areas (ring ∷ rings)) good =
     by_edge (Areas (ring ∷ rings)) e.0 (among_flat edges ring e.0 (ring ∷ rings) (inl refl) e.1)
 
 -- two coordinates differ by at most the side of the plane
-coordinates_within : (x y : ℤ) → IsCoordinate x → IsCoordinate y → nat_abs (difference x 1 y 1) ≤ 2000000000000
+coordinates_within : (x y : ℤ) → IsCoordinate x → IsCoordinate y → nat_abs (difference x 1 y 1) ≤ greatest_gap
 coordinates_within x y in_x in_y = let a = in_x.0 in let b = in_x.1 in let c = in_y.0 in let d = in_y.1 in omega (arith, ints, a, b, c, d)
 
 vertices_within : (v w : Vertex) → scaled_square (at v) (at w) ≤ (greatest_distance * greatest_distance) * scale_of (at v) (at w)

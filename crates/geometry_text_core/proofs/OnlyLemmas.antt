@@ -2,7 +2,6 @@
 use Rattle.std.proofs.Common.{◌≡◌, ◌≤◌, ◌+◌, ℕ, Bool, true, false, List, [], ◌∷◌, inl, inr, get_or, drop, refl, sym, ◌∙◌, ap, ap₂, subst, arith}
 use Rattle.std.specs.Prelude.{◌==◌, ◌&&◌, not, ℤ, Option, Some, None, Result, Ok, Err, MatchResult, IfSome, IfNone, IsSome, ◌↔◌}
 use Rattle.std.specs.Result.{result_ok}
-use Rattle.geom_core.specs.Limits.{IsCoordinate}
 use Rattle.double_core.specs.declared.double.Fault.{Fault}
 use Rattle.double_core.specs.Units.{IsReadAs, IsRoundedTo, HasFault, HasFaultRounded}
 use Rattle.plane_core.specs.declared.vertex.Vertex.{Vertex}
@@ -10,7 +9,7 @@ use Rattle.double_core.proofs.LawLemmas.{one_units, one_rounded, no_fault, no_ro
 use Rattle.number_core.specs.declared.scale.Rounding.{Rounding}
 use Rattle.number_core.specs.declared.scale.Rounding.TheVariants.{Exact, Nearest}
 use Rattle.number_core.specs.declared.scale.Scale.{Scale}
-use Rattle.number_core.specs.Scales.{digits_of, rounding_of}
+use Rattle.number_core.specs.Scales.{digits_of, rounding_of, IsInRange}
 use Rattle.wkt_core.specs.declared.keyword.Keyword.{Keyword}
 use Rattle.wkt_core.specs.declared.keyword.Keyword.TheVariants.{Point, LineString, Polygon}
 use Rattle.wkt_core.specs.declared.position.Position.{Position}
@@ -246,17 +245,17 @@ no_rounded_units scale digits bits r o d e h k =
     subst (λ q. IfNone q ((z : ℤ) → IsUnits scale bits z → ⊥)) (sym k)
     (rounded_none (rounding_of scale) (digits_of scale) bits r e (subst (λ n. MatchResult r (λ u. IsRoundedTo bits n u) (λ f. HasFaultRounded bits n f)) d h))
 
-pub vertex_position : (scale : Scale) (x y : ℕ) (a b : ℤ) (v : Option Vertex) → IsUnits scale x a → IsUnits scale y b → (IsSome v ↔ (IsCoordinate a × IsCoordinate b))
+pub vertex_position : (scale : Scale) (x y : ℕ) (a b : ℤ) (v : Option Vertex) → IsUnits scale x a → IsUnits scale y b → (IsSome v ↔ (IsInRange scale a × IsInRange scale b))
     → IfSome v (λ w. w.x ≡ a) → IfSome v (λ w. w.y ≡ b) → IsPosition scale x y (position_at v)
 vertex_position scale x y a b (Some v) h k some p q = record {
   x_units = subst (IsUnits scale x) (sym p) h;
   y_units = subst (IsUnits scale y) (sym q) k;
-  x_in_range = v.x_in_range;
-  y_in_range = v.y_in_range;
+  x_in_range = subst (IsInRange scale) (sym p) (some.0 refl).0;
+  y_in_range = subst (IsInRange scale) (sym q) (some.0 refl).1;
 }
 vertex_position scale x y a b None h k some p q = λ r at.
-    let here : IsCoordinate a = subst IsCoordinate (units_one scale x r.x a at.x_units h) at.x_in_range in
-    let there : IsCoordinate b = subst IsCoordinate (units_one scale y r.y b at.y_units k) at.y_in_range in
+    let here : IsInRange scale a = subst (IsInRange scale) (units_one scale x r.x a at.x_units h) at.x_in_range in
+    let there : IsInRange scale b = subst (IsInRange scale) (units_one scale y r.y b at.y_units k) at.y_in_range in
     let s = some.1 (here, there) in absurd cc
 
 -- the lists of a geometry whose head was read

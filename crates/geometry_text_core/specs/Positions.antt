@@ -1,11 +1,10 @@
 -- Where a point of two doubles is at a scale.
 use Rattle.std.specs.Prelude.{ℕ, ℤ, List, Option, Some, None, pos, ⊤}
-use Rattle.geom_core.specs.Limits.{IsCoordinate}
 use Rattle.double_core.specs.Units.{IsReadAs, IsRoundedTo}
 use Rattle.number_core.specs.declared.scale.Rounding.{Rounding}
 use Rattle.number_core.specs.declared.scale.Rounding.TheVariants.{Exact, Nearest}
 use Rattle.number_core.specs.declared.scale.Scale.{Scale}
-use Rattle.number_core.specs.Scales.{digits_of, rounding_of}
+use Rattle.number_core.specs.Scales.{digits_of, rounding_of, IsInRange}
 use Rattle.plane_core.specs.declared.vertex.Vertex.{Vertex}
 use Rattle.wkt_core.specs.declared.position.Position.{Position}
 use Rattle.wkt_core.specs.ListSteps.{Step}
@@ -25,8 +24,8 @@ IsUnits scale bits z = IsUnitsBy (rounding_of scale) (digits_of scale) bits z
 pub record IsAt (scale : Scale) (x y : ℕ) (p : Position) : Type 0 where
   pub x_units : IsUnits scale x p.x
   pub y_units : IsUnits scale y p.y
-  pub x_in_range : IsCoordinate p.x
-  pub y_in_range : IsCoordinate p.y
+  pub x_in_range : IsInRange scale p.x
+  pub y_in_range : IsInRange scale p.y
 
 -- the position of two doubles, if they have one
 abbrev pub IsPosition : Scale → ℕ → ℕ → Option Position → Type 0

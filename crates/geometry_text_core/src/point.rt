@@ -1,7 +1,7 @@
 //! A point of two doubles.
 
-ghost use Rattle.std.specs.Prelude.{◌≡◌, ℕ, ℤ, List, Option, IfOk, IfSome, IfNone};
-ghost use Rattle.geom_core.specs.Limits.{IsCoordinate};
+ghost use Rattle.std.specs.Prelude.{◌≡◌, ◌↔◌, ℕ, ℤ, List, Option, IfOk, IfSome, IfNone, IsSome};
+ghost use Rattle.number_core.specs.Scales.{IsInRange};
 ghost use Rattle.wkt_core.specs.declared.position.Position.{Position};
 ghost use Rattle.geometry_text_core.specs.Positions.{IsUnits, IsPosition, TakesPosition};
 ghost use Rattle.geometry_text_core.specs.Positions.{position_at};
@@ -26,13 +26,27 @@ fn units_at(bits: u64, scale: Scale) -> Option<i64>
     }
 }
 
+/// The vertex with these units, if they are within the limits of the scale.
+fn vertex_within(x: i64, y: i64, scale: Scale) -> Option<Vertex>
+    ensures some { IsSome result ↔ (IsInRange scale x × IsInRange scale y) }
+    ensures x { IfSome result (λ v. v.x ≡ x) }
+    ensures y { IfSome result (λ v. v.y ≡ y) }
+{
+    let most = scale.limits().units();
+    if x.unsigned_abs() <= most && y.unsigned_abs() <= most {
+        Vertex::new(x, y)
+    } else {
+        None
+    }
+}
+
 /// The vertex of a point of two doubles, if its units are whole or are rounded, and in range.
 fn vertex_at(x: u64, y: u64, scale: Scale) -> Option<Vertex>
     ensures { IsPosition scale x y (position_at result) }
 {
     let x = units_at(x, scale)?;
     let y = units_at(y, scale)?;
-    Vertex::new(x, y)
+    vertex_within(x, y, scale)
 }
 
 /// Reads the point at the start of bytes, and returns the bytes after it.

@@ -121,7 +121,7 @@ fn read_words(
 /// - [`GeometryFault::Text`] if the text is of neither form. Binary has no Z and no M, each of its
 ///   counts is at least 1, none of its coordinates is a NaN, and no byte is left.
 /// - [`GeometryFault::Number`] if some number isn't whole at the scale and isn't rounded, or is
-///   more than [`geom_core::LIMIT`] units from 0, once rounded, or infinite.
+///   beyond the limit of the scale, once rounded, or infinite.
 /// - [`GeometryFault::Form`] and [`GeometryFault::Rings`] as of `wkt_any_core::read`.
 ///
 /// The outer error means that memory ran out, or that there are 2^32 vertices or more.

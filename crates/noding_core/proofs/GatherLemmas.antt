@@ -22,8 +22,9 @@ use Rattle.plane_core.proofs.Ring.{monomials, times-zero, times-one, one-times, 
 use Rattle.plane_core.proofs.ScaleLemmas.{less_scaled}
 use Rattle.plane_core.proofs.PartScaleLemmas.{is_on-same_place}
 use Rattle.plane_core.proofs.FormLemmas.{no_zero_divisor, by_zero}
-use Rattle.noding_core.proofs.OrderLemmas.{same_refl, same_trans, wide_z, across, upward}
+use Rattle.noding_core.proofs.OrderLemmas.{same_sym, same_trans, wide_z, across, upward}
 use Rattle.plane_core.proofs.CrossingLemmas.{level_of}
+use Rattle.plane_core.proofs.PlaceLemmas.{place_on}
 use Rattle.noding_core.proofs.NodeLemmas.{all_among}
 use Rattle.noding_core.proofs.PieceLemmas.{side-way}
 use Rattle.noding_core.proofs.TestLemmas.{by_test}
@@ -88,12 +89,12 @@ meetings_kept e ns ms f k h = record {
 }
 
 -- a vertex that was pushed, or isn't on the edge
-pub vertex_pushed : (e : Edge) (ns ms : List Node) (n : Node) (v : Vertex) → ms ≡ ns ++ n ∷ [] → node_point n ≡ at v → HasVertex e ms v
+pub vertex_pushed : (e : Edge) (ns ms : List Node) (n : Node) (v : Vertex) → ms ≡ ns ++ n ∷ [] → IsSamePlace (node_point n) (at v) → HasVertex e ms v
 vertex_pushed e ns ms n v e1 is = record {
   here = λ on. record {
     node = n;
     among = subst (λ (l : List Node). Contains l n) (sym e1) (Contains-push ns n);
-    same = subst (λ (p : Point). IsSamePlace (at v) p) (sym is) (same_refl (at v));
+    same = same_sym (node_point n) (at v) is;
   };
 }
 
@@ -104,11 +105,12 @@ vertex_off e ns v off = record { here = λ on. absurd (both (is_on e (at v)) on 
     both t h k = cc
 
 -- all on the edge, and one more
-pub on_pushed : (e : Edge) (ns ms : List Node) (n : Node) → ms ≡ ns ++ n ∷ [] → is_on e (node_point n) ≡ true → All (IsOn e) ns → All (IsOn e) ms
+pub on_pushed : (e : Edge) (ns ms : List Node) (n : Node) → ms ≡ ns ++ n ∷ [] → n.place.edge ≡ e → All (IsOn e) ns → All (IsOn e) ms
 on_pushed e ns ms n is on all = subst (All (IsOn e)) (sym is) (All-push (IsOn e) ns n all on)
 
-pub on_at : (e : Edge) (n : Node) (v : Vertex) → node_point n ≡ at v → is_on e (at v) ≡ true → is_on e (node_point n) ≡ true
-on_at e n v is on = ap (is_on e) is ∙ on
+-- a place of an edge is on it
+pub on_edge : (e : Edge) (n : Node) → IsOn e n → is_on e (node_point n) ≡ true
+on_edge e n same = subst (λ (f : Edge). is_on f (node_point n) ≡ true) same (place_on n.place)
 
 pub vertices_more : (e : Edge) (ns ms : List Node) (v : Vertex) (vs : List Vertex) (i : ℕ) → i < length vs → v ≡ get_or vs i v → Extends ns ms
     → All (HasVertex e ns) (take i vs) → HasVertex e ms v → All (HasVertex e ms) (take (i + 1) vs)
@@ -321,7 +323,7 @@ pub nodes_made : (e : Edge) (es : List Edge) (vs : List Vertex) (ns ms : List No
     → HasVertex e ns e.a → HasVertex e ns e.b → All (HasMeetings e ns) es → All (HasVertex e ns) vs
     → IsPermutation ns ms → Ascend (map node_point ms) → AreNodesOf es vs e (map node_point ms)
 nodes_made e es vs ns ms long on first last meetings singles moved up = record {
-  points = All-map (IsPointOf e) node_point ms (λ k d lt. record { wide = node_wide (get_or ms k d); on = All-permutation (IsOn e) ns ms moved on k d lt });
+  points = All-map (IsPointOf e) node_point ms (λ k d lt. record { wide = node_wide (get_or ms k d); on = on_edge e (get_or ms k d) (All-permutation (IsOn e) ns ms moved on k d lt) });
   ascend = up;
   first_end = place_sorted ns ms (at e.a) moved (first.here (first_on e (at e.a) (at_first e.a)));
   last_end = place_sorted ns ms (at e.b) moved (last.here (last_on e (at e.b) (at_first e.b)));

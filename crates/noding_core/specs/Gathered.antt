@@ -14,8 +14,9 @@ pub record Extends {A : Type 0} (old new : List A) : Type 0 where
   pub more : List A
   pub is : new ≡ old ++ more
 
+-- the node is a place of the edge
 abbrev pub IsOn : Edge → Node → Type 0
-IsOn e n = is_on e (node_point n) ≡ true
+IsOn e n = n.place.edge ≡ e
 
 -- some node is at the same place as the point
 pub record HasPlace (ns : List Node) (p : Point) : Type 0 where

@@ -21,7 +21,7 @@ fn push_vertex(nodes: &mut Vec<Node>, e: &Edge, v: &Vertex) -> Result<(), AllocE
     ensures here { OnOk result (HasVertex e.now nodes.new.items v.now) }
 {
     if e.is_on_vertex(v) {
-        let node = Node::at(v);
+        let node = Node::on(e, v);
         nodes.push(node)?;
     }
     Ok(())
@@ -165,12 +165,17 @@ fn push_vertices(nodes: &mut Vec<Node>, e: &Edge, vertices: &[Vertex]) -> Result
     Ok(())
 }
 
-/// Sorts points by (x, y).
-fn sort_nodes(nodes: &mut Vec<Node>) -> Result<(), AllocError>
+/// Sorts points of an edge by (x, y), which is the order along the edge or against it.
+fn sort_nodes(nodes: &mut Vec<Node>, e: &Edge) -> Result<(), AllocError>
+    requires { All (IsOn e.now) nodes.old.items }
     ensures permutation { IsPermutation nodes.old.items nodes.new.items }
     ensures sorted { OnOk result (Ascend (map node_point nodes.new.items)) }
 {
-    nodes.sort_by(|a, b| a.compare(b))?;
+    if e.direction().is_gt() {
+        nodes.sort_by(|a, b| b.compare_along(a))?;
+        return Ok(());
+    }
+    nodes.sort_by(|a, b| a.compare_along(b))?;
     Ok(())
 }
 
@@ -185,14 +190,17 @@ pub fn gather_nodes(
     points: &[Vertex],
 ) -> Result<(), AllocError>
     requires { HasLength e.now }
-    ensures { let gathered = map node_point nodes.new.items in
+    // the points of the edge at which nodes lie, in order
+    ensures nodes { let gathered = map node_point nodes.new.items in
         OnOk result (AreNodesOf near.now points.now e.now gathered) }
+    // all are places of the edge
+    ensures on { OnOk result (All (IsOn e.now) nodes.new.items) }
 {
     nodes.clear();
     push_vertex(nodes, e, &e.a)?;
     push_vertex(nodes, e, &e.b)?;
     push_each_meetings(nodes, e, near)?;
     push_vertices(nodes, e, points)?;
-    sort_nodes(nodes)?;
+    sort_nodes(nodes, e)?;
     Ok(())
 }

@@ -4,18 +4,31 @@ use Rattle.std.specs.Prelude.{ℤ, nat_le, is_some}
 use Rattle.std.proofs.lemmas.Bool.Decides.{nat_tests}
 use Rattle.std.proofs.lemmas.Int.{ints}
 use Rattle.geom_core.specs.Shapes.{IsCoordinate, greatest_coordinate}
+use Rattle.number_core.specs.declared.limits.Limits.{Limits}
+use Rattle.number_core.specs.declared.limits.Limits.TheVariants.{Boxes, Any}
 use Rattle.number_core.specs.declared.scale.Scale.{Scale}
+use Rattle.number_core.specs.ScaleLimits.{greatest_units}
+use Rattle.number_core.specs.Scales.{limits_of, IsInRange}
 use Rattle.number_core.specs.Numbers.{Numeral}
 use Rattle.number_core.specs.Values.{signed, units, value}
-use Rattle.number_core.specs.NumberSteps.{number_read}
+use Rattle.number_core.specs.NumberSteps.{coordinate_read, number_read}
 
-in_range : (negative : Bool) (n : ℕ) → n ≤ greatest_coordinate → IsCoordinate (signed negative n)
-in_range true n h = (omega (arith, ints), omega (arith, ints))
-in_range false n h = (omega (arith, ints), omega (arith, ints))
+in_range : (scale : Scale) (negative : Bool) (n : ℕ) → n ≤ greatest_units (limits_of scale) → IsInRange scale (signed negative n)
+in_range scale true n h = (omega (arith, ints), omega (arith, ints))
+in_range scale false n h = (omega (arith, ints), omega (arith, ints))
 
-range_in : (negative : Bool) (n : ℕ) → IsCoordinate (signed negative n) → n ≤ greatest_coordinate
-range_in true n h = omega (arith, ints)
-range_in false n h = omega (arith, ints)
+range_in : (scale : Scale) (negative : Bool) (n : ℕ) → IsInRange scale (signed negative n) → n ≤ greatest_units (limits_of scale)
+range_in scale true n h = omega (arith, ints)
+range_in scale false n h = omega (arith, ints)
+
+-- no limit is beyond the plane
+units_few : (limits : Limits) → greatest_units limits ≤ greatest_coordinate
+units_few Boxes = omega arith
+units_few Any = omega arith
+
+-- a number in range is a coordinate of the plane
+pub in_plane : (scale : Scale) (z : ℤ) → IsInRange scale z → IsCoordinate z
+in_plane scale z h = let few = units_few (limits_of scale) in (omega (arith, ints, h.0, few), omega (arith, ints, h.1, few))
 
 some_if : (b : Bool) (z : ℤ) → is_some (cond b (Some z) None) ≡ true → b ≡ true
 some_if true z h = refl
@@ -33,8 +46,8 @@ module _ (scale : Scale) where
       let test : nat_le (units scale n) most ≡ true = grind (arith, nat_tests) in
       rw test refl
 
-  pub value_in_range : (n : Numeral) → is_some (number_read greatest_coordinate scale n).value ≡ true → IsCoordinate (value scale n)
-  value_in_range n h = in_range n.negative (units scale n) (units_in_range greatest_coordinate n h)
+  pub value_in_range : (n : Numeral) → is_some (coordinate_read scale n).value ≡ true → IsInRange scale (value scale n)
+  value_in_range n h = in_range scale n.negative (units scale n) (units_in_range (greatest_units (limits_of scale)) n h)
 
-  pub in_range_value : (n : Numeral) → IsCoordinate (value scale n) → is_some (number_read greatest_coordinate scale n).value ≡ true
-  in_range_value n h = in_range_units greatest_coordinate n (range_in n.negative (units scale n) h)
+  pub in_range_value : (n : Numeral) → IsInRange scale (value scale n) → is_some (coordinate_read scale n).value ≡ true
+  in_range_value n h = in_range_units (greatest_units (limits_of scale)) n (range_in scale n.negative (units scale n) h)

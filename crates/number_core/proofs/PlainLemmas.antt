@@ -1,11 +1,11 @@
 -- A number that is read without rounding is read alike with it.
 use Rattle.std.proofs.Common.{◌≡◌, true, ℕ, List, [], refl, sym, ap, ◌∙◌, subst, arith}
 use Rattle.std.proofs.lemmas.List.{length-append}
-use Rattle.geom_core.specs.Shapes.{IsCoordinate}
 use Rattle.number_core.specs.declared.scale.Rounding.{Rounding}
 use Rattle.number_core.specs.declared.scale.Rounding.TheVariants.{Exact, Nearest}
 use Rattle.number_core.specs.declared.scale.Scale.{Scale}
-use Rattle.number_core.specs.Scales.{digits_of, rounding_of}
+use Rattle.number_core.specs.ScaleLimits.{IsWithin}
+use Rattle.number_core.specs.Scales.{digits_of, limits_of, rounding_of, IsInRange}
 use Rattle.number_core.specs.Numbers.{Numeral, Digits, IsTaken, Number}
 use Rattle.number_core.specs.Values.{is_whole_by, units_by, signed, value, IsGood}
 use Rattle.number_core.proofs.RoundedLemmas.{whole_units}
@@ -42,7 +42,7 @@ module _ (exact scale : Scale) (is : rounding_of exact ≡ Exact) where
     none = (taken_exact n h.0).1;
   }
 
-  module _ (digits : digits_of scale ≡ digits_of exact) where
+  module _ (digits : digits_of scale ≡ digits_of exact) (limits : limits_of scale ≡ limits_of exact) where
     whole_exact : (n : Numeral) → IsGood exact n → is_whole_by Exact (digits_of scale) n ≡ true
     whole_exact n good = rw digits (subst (λ r. is_whole_by r (digits_of exact) n ≡ true) is good.whole)
 
@@ -54,5 +54,5 @@ module _ (exact scale : Scale) (is : rounding_of exact ≡ Exact) where
     pub good_alike : (n : Numeral) → IsPlain n → IsGood exact n → IsGood scale n
     good_alike n plain good = record {
       whole = whole_still (rounding_of scale) (digits_of scale) n (whole_exact n good);
-      in_range = subst IsCoordinate (sym (value_alike n plain good)) good.in_range;
+      in_range = subst (λ l. IsWithin l (value scale n)) (sym limits) (subst (IsInRange exact) (sym (value_alike n plain good)) good.in_range);
     }

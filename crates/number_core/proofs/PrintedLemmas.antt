@@ -14,23 +14,24 @@ use Rattle.geom_core.specs.Shapes.{IsCoordinate}
 use Rattle.number_core.specs.declared.scale.Rounding.{Rounding}
 use Rattle.number_core.specs.declared.scale.Rounding.TheVariants.{Exact, Nearest}
 use Rattle.number_core.specs.declared.scale.Scale.{Scale}
-use Rattle.number_core.specs.Scales.{digits_of, rounding_of}
+use Rattle.number_core.specs.Scales.{digits_of, rounding_of, IsInRange}
 use Rattle.number_core.specs.CanonicalNumbers.{decimals, fraction, amount, number}
 use Rattle.number_core.specs.Numbers.{Numeral, Digits, Sign, IsTaken, Written, Number}
 use Rattle.number_core.specs.Values.{kept, signed, is_whole_by, units_by, value, IsGood, SpellsNumber}
 use Rattle.number_core.proofs.FractionLemmas.{power_pos, decimals_digits, decimals_kept, decimals_value, fraction_printed}
 use Rattle.number_core.proofs.NumberLemmas.{digits_value_after-append}
 use Rattle.number_core.proofs.RoundedLemmas.{whole_units}
+use Rattle.number_core.proofs.GoodLemmas.{in_plane}
 
 digits_are : (ds : List ℕ) → AllDigits 10 ds → Digits ds
 digits_are [] h = tt
 digits_are (d ∷ ds) h = let range = digit_from_value d h.0 in (grind (arith, nat_tests), digits_are ds h.1)
 
-in_word : (n : ℕ) → IsCoordinate (pos n) → n < 2 ^ 64
-in_word n h = omega (arith, ints)
+in_word : (scale : Scale) (n : ℕ) → IsInRange scale (pos n) → n < 2 ^ 64
+in_word scale n h = let plane : IsCoordinate (pos n) = in_plane scale (pos n) h in omega (arith, ints)
 
-in_word_below : (n : ℕ) → IsCoordinate (negsuc n) → suc n < 2 ^ 64
-in_word_below n h = omega (arith, ints)
+in_word_below : (scale : Scale) (n : ℕ) → IsInRange scale (negsuc n) → suc n < 2 ^ 64
+in_word_below scale n h = let plane : IsCoordinate (negsuc n) = in_plane scale (negsuc n) h in omega (arith, ints)
 
 -- ---- an amount of units
 
@@ -104,29 +105,29 @@ module _ (scale : Scale) where
   numeral (pos n) = printed false (digits_of scale) n
   numeral (negsuc n) = printed true (digits_of scale) (suc n)
 
-  pub number_printed : (z : ℤ) → IsCoordinate z → Number scale (numeral z) (number scale z)
+  pub number_printed : (z : ℤ) → IsInRange scale z → Number scale (numeral z) (number scale z)
   unfolding numeral
   number_printed (pos n) h = (
-    amount_taken (rounding_of scale) false (digits_of scale) n (in_word n h),
-    amount_printed (digits_of scale) n false [] (inl refl) (in_word n h),
+    amount_taken (rounding_of scale) false (digits_of scale) n (in_word scale n h),
+    amount_printed (digits_of scale) n false [] (inl refl) (in_word scale n h),
   )
   number_printed (negsuc n) h = (
-    amount_taken (rounding_of scale) true (digits_of scale) (suc n) (in_word_below n h),
-    amount_printed (digits_of scale) (suc n) true (codes "-") refl (in_word_below n h),
+    amount_taken (rounding_of scale) true (digits_of scale) (suc n) (in_word_below scale n h),
+    amount_printed (digits_of scale) (suc n) true (codes "-") refl (in_word_below scale n h),
   )
 
-  pub value_printed : (z : ℤ) → IsCoordinate z → value scale (numeral z) ≡ z
+  pub value_printed : (z : ℤ) → IsInRange scale z → value scale (numeral z) ≡ z
   unfolding numeral
-  value_printed (pos n) h = ap pos (units_printed (rounding_of scale) false (digits_of scale) n (in_word n h))
+  value_printed (pos n) h = ap pos (units_printed (rounding_of scale) false (digits_of scale) n (in_word scale n h))
   value_printed (negsuc n) h =
-      ap (signed true) (units_printed (rounding_of scale) true (digits_of scale) (suc n) (in_word_below n h))
+      ap (signed true) (units_printed (rounding_of scale) true (digits_of scale) (suc n) (in_word_below scale n h))
 
-  pub good_printed : (z : ℤ) → IsCoordinate z → IsGood scale (numeral z)
+  pub good_printed : (z : ℤ) → IsInRange scale z → IsGood scale (numeral z)
   unfolding numeral
   good_printed (pos n) h = record { whole = whole_printed (rounding_of scale) false (digits_of scale) n; in_range = rw (value_printed (pos n) h) h }
   good_printed (negsuc n) h = record { whole = whole_printed (rounding_of scale) true (digits_of scale) (suc n); in_range = rw (value_printed (negsuc n) h) h }
 
-pub number_spelled : (scale : Scale) (z : ℤ) → IsCoordinate z → SpellsNumber scale (number scale z) z
+pub number_spelled : (scale : Scale) (z : ℤ) → IsInRange scale z → SpellsNumber scale (number scale z) z
 number_spelled scale z h = record {
   numeral = numeral scale z;
   number = number_printed scale z h;

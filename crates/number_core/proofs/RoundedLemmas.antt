@@ -186,16 +186,16 @@ capped_on r x y (inl e) h = subst (λ n. IsCapped n y) (sym e) h
 capped_on r x y (inr h) (inl e) = inr (h.0, subst (λ n. greatest_range < n) e h.1)
 capped_on r x y (inr h) (inr k) = inr (h.0, k.1)
 
-beyond : (v m : ℕ) → 13 ≤ m → greatest_range < suc v * 10 ^ m
+beyond : (v m : ℕ) → 19 ≤ m → greatest_range < suc v * 10 ^ m
 beyond v m h =
-    let j = m - 13 in
-    let more : m ≡ 13 + j = omega (arith, h) in
-    let power : 10 ^ m ≡ 10 ^ 13 * 10 ^ j = ap (λ n. 10 ^ n) more ∙ pow-add 10 13 j in
-    let least : 10 ^ 13 * 1 ≤ 10 ^ 13 * 10 ^ j = omega (arith, power_pos j) in
+    let j = m - 19 in
+    let more : m ≡ 19 + j = omega (arith, h) in
+    let power : 10 ^ m ≡ 10 ^ 19 * 10 ^ j = ap (λ n. 10 ^ n) more ∙ pow-add 10 19 j in
+    let least : 10 ^ 19 * 1 ≤ 10 ^ 19 * 10 ^ j = omega (arith, power_pos j) in
     let once : 1 * 10 ^ m ≤ suc v * 10 ^ m = mul-le-mul_right (10 ^ m) (omega arith) in
     omega (arith, power, least, once)
 
-both_beyond : (v m n : ℕ) → 13 ≤ m → 13 ≤ n → IsCapped (v * 10 ^ m) (v * 10 ^ n)
+both_beyond : (v m n : ℕ) → 19 ≤ m → 19 ≤ n → IsCapped (v * 10 ^ m) (v * 10 ^ n)
 both_beyond zero m n h k = inl (omega arith)
 both_beyond (suc v) m n h k = inr (beyond v m h, beyond v n k)
 
@@ -211,7 +211,7 @@ module _ (ds es : List ℕ) (k : ℕ) (hd : Digits ds) (he : Digits es) where
   raised_is : (n : ℕ) → nearest (digits_value 10 all * 10 ^ (k + n)) (10 ^ (length es + 0)) ≡ cut (length ds + k + n) all
   raised_is n = nearest_cut all (length ds + k + n) (k + n) (length es + 0) (digits_join ds es hd he) (omega (arith, length-append ds es))
 
-  far_cut : (i j : ℕ) → length all + 13 ≤ i → length all + 13 ≤ j → IsCapped (cut i all) (cut j all)
+  far_cut : (i j : ℕ) → length all + 19 ≤ i → length all + 19 ≤ j → IsCapped (cut i all) (cut j all)
   far_cut i j h l =
       let m = i - length all in
       let n = j - length all in
@@ -227,12 +227,12 @@ module _ (ds es : List ℕ) (k : ℕ) (hd : Digits ds) (he : Digits es) where
   near_raised r n place at h = rw (raised_is n) (subst (λ i. IsCapped r (cut i all)) at h)
 
   -- raised by so much that more makes no difference
-  far_raised : (r n place : ℕ) → place ≡ length ds + k + (length es + 13) → length es + 13 ≤ n → IsCapped r (cut place all) → IsRaised r n
+  far_raised : (r n place : ℕ) → place ≡ length ds + k + (length es + 19) → length es + 19 ≤ n → IsCapped r (cut place all) → IsRaised r n
   far_raised r n place at far h =
       rw (raised_is n) (capped_on r (cut place all) (cut (length ds + k + n) all) h
       (far_cut place (length ds + k + n) (omega (arith, at, length-append ds es)) (omega (arith, far, length-append ds es))))
 
-  pub raised_units : (r a n raised place : ℕ) → length es < 2 ^ 63 → IsSaturated a n → (raised ≤ a) × (raised ≤ length es + 13) × ((raised ≡ a) ⊎ (raised ≡ length es + 13))
+  pub raised_units : (r a n raised place : ℕ) → length es < 2 ^ 63 → IsSaturated a n → (raised ≤ a) × (raised ≤ length es + 19) × ((raised ≡ a) ⊎ (raised ≡ length es + 19))
       → place ≡ length ds + k + raised → IsCapped r (cut place all) → IsRaised r n
   raised_units r a n raised place short (inl e) (low, high, inl f) at h = near_raised r n place (omega (arith, at, e, f)) h
   raised_units r a n raised place short (inl e) (low, high, inr f) at h = far_raised r n place (omega (arith, at, f)) (omega (arith, e, f, low)) h

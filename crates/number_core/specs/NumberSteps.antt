@@ -6,14 +6,13 @@ use Rattle.std.specs.Borrow.{Bor}
 use Rattle.std.specs.Char.{is_ascii_digit}
 use Rattle.std.specs.List.{list_all}
 use Rattle.std.specs.Str.Parse.{digits_value}
-use Rattle.geom_core.specs.Shapes.{greatest_coordinate}
 use Rattle.number_core.specs.declared.number.Plain.{Plain}
 use Rattle.number_core.specs.declared.number.ReadNumber.{ReadNumber}
 use Rattle.number_core.specs.declared.scale.Rounding.{Rounding}
 use Rattle.number_core.specs.declared.scale.Rounding.TheVariants.{Exact, Nearest}
 use Rattle.number_core.specs.declared.scale.Scale.{Scale}
-use Rattle.number_core.specs.ScaleLimits.{greatest_range}
-use Rattle.number_core.specs.Scales.{digits_of, rounding_of}
+use Rattle.number_core.specs.ScaleLimits.{greatest_range, greatest_units}
+use Rattle.number_core.specs.Scales.{digits_of, limits_of, rounding_of}
 use Rattle.number_core.specs.Numbers.{Numeral}
 use Rattle.number_core.specs.Values.{kept, is_whole, signed, units}
 
@@ -145,7 +144,7 @@ number_read most scale n = record {
 
 -- the result of reading a coordinate
 abbrev pub coordinate_read : Scale → Numeral → ReadNumber
-coordinate_read = number_read greatest_coordinate
+coordinate_read scale = number_read (greatest_units (limits_of scale)) scale
 
 -- a number that was read with the text after it, if there is one
 abbrev pub number_answer : ℕ → Scale → Option (Numeral × List ℕ) → Option (ReadNumber × List ℕ)

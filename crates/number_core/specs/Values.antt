@@ -4,11 +4,10 @@ use Rattle.std.specs.Prelude.{true, false, IsTrue, List, ◌++◌, length, take,
 use Rattle.std.specs.Prelude.{if◌then◌else◌}
 use Rattle.std.specs.List.{list_all}
 use Rattle.std.specs.Str.Parse.{digits_value}
-use Rattle.geom_core.specs.Shapes.{IsCoordinate}
 use Rattle.number_core.specs.declared.scale.Rounding.{Rounding}
 use Rattle.number_core.specs.declared.scale.Rounding.TheVariants.{Exact, Nearest}
 use Rattle.number_core.specs.declared.scale.Scale.{Scale}
-use Rattle.number_core.specs.Scales.{digits_of, rounding_of}
+use Rattle.number_core.specs.Scales.{digits_of, rounding_of, IsInRange}
 use Rattle.number_core.specs.Numbers.{Numeral, Number}
 
 -- the first k of the digits, with a 0 (48) for each missing one
@@ -53,10 +52,10 @@ signed true n = neg_ℤ (pos n)
 abbrev pub value : Scale → Numeral → ℤ
 value scale n = signed n.negative (units scale n)
 
--- whole and in range
+-- whole and within the limit of the scale
 pub record IsGood (scale : Scale) (n : Numeral) : Type 0 where
   pub whole : IsTrue (is_whole scale n)
-  pub in_range : IsCoordinate (value scale n)
+  pub in_range : IsInRange scale (value scale n)
 
 -- the text is a number of so many units
 pub record SpellsNumber (scale : Scale) (text : List ℕ) (z : ℤ) : Type 0 where

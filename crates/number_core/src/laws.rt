@@ -1,10 +1,10 @@
 //! The laws of numbers.
 
 ghost use Rattle.std.specs.Prelude.{◌≡◌, ◌<◌, ◌≤◌, ◌+◌, ◌*◌, ◌++◌, List, ℕ, ℤ, Some};
-ghost use Rattle.geom_core.specs.Shapes.{IsCoordinate};
 ghost use Rattle.number_core.specs.declared.scale.Scale.{Scale};
 ghost use Rattle.number_core.specs.Numbers.{Numeral, Number, Ends};
 ghost use Rattle.number_core.specs.NumberSteps.{number_at};
+ghost use Rattle.number_core.specs.Scales.{IsInRange};
 ghost use Rattle.number_core.specs.CanonicalNumbers.{number};
 ghost use Rattle.number_core.specs.Values.{nearest, SpellsNumber};
 
@@ -25,9 +25,9 @@ pub fn number_law()
 /// The text that is printed for a coordinate spells it, with rounding and without.
 #[tactic(auto, using(crate::proofs::PrintedLemmas::number_spelled))]
 pub fn printed_law()
-    // the canonical spelling of a coordinate spells it
+    // the canonical spelling of a coordinate within the limit of the scale spells it
     ensures spells { (scale : Scale) (units : ℤ)
-        → IsCoordinate units → SpellsNumber scale (number scale units) units }
+        → IsInRange scale units → SpellsNumber scale (number scale units) units }
 {}
 
 /// The whole number that is read in place of a / b is at most half off, and half a one is rounded

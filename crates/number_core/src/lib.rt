@@ -13,12 +13,14 @@
 #![tactic(auto)]
 
 mod laws;
+mod limits;
 mod number;
 mod printer;
 mod rounded;
 mod scale;
 
 pub use laws::{nearest_law, number_law, printed_law};
+pub use limits::Limits;
 pub use number::{ReadNumber, read_number, read_number_to};
 pub use printer::push_number;
 pub use scale::{Rounding, Scale};

@@ -4,12 +4,11 @@ ghost use Rattle.std.specs.Prelude.{◌≡◌, ◌==◌, ◌+◌, ◌*◌, ◌�
 ghost use Rattle.std.specs.Prelude.{IfSome, IfNone};
 ghost use Rattle.std.specs.Prelude.{if◌then◌else◌};
 ghost use Rattle.std.specs.Char.{digit_value};
-ghost use Rattle.geom_core.specs.Shapes.{greatest_coordinate};
 ghost use Rattle.std.specs.List.{list_all};
 ghost use Rattle.std.specs.Str.Parse.{digits_value, digits_value_after};
 ghost use Rattle.number_core.specs.Numbers.{IsDigit};
-ghost use Rattle.number_core.specs.ScaleLimits.{greatest_range};
-ghost use Rattle.number_core.specs.Scales.{digits_of};
+ghost use Rattle.number_core.specs.ScaleLimits.{greatest_range, greatest_units};
+ghost use Rattle.number_core.specs.Scales.{digits_of, limits_of};
 ghost use Rattle.number_core.specs.Values.{kept};
 ghost use Rattle.number_core.specs.NumberSteps.{digits_at, after_digits, sign_at, decimals_at};
 ghost use Rattle.number_core.specs.NumberSteps.{has_letter, has_digit, rounds_up, ranged};
@@ -18,11 +17,10 @@ ghost use Rattle.number_core.specs.NumberSteps.{IsCapped, IsPlainOf};
 
 use crate::rounded::read_rounded;
 use crate::scale::{Rounding, Scale};
-use geom_core::LIMIT;
 
 /// The greatest absolute value that a number may be read up to: no two points of the plane are
 /// this far apart.
-pub(crate) const LARGEST: u64 = 4_000_000_000_000;
+pub(crate) const LARGEST: u64 = 4_000_000_000_000_000_000;
 
 /// The number of digits that are read with one length check and no overflow check; their value
 /// fits.
@@ -119,10 +117,10 @@ pub(crate) fn with_digit(number: u64, digit: u8) -> u64
     ensures { (total : ℕ)
         → IsCapped number total → IsCapped result (total * 10 + digit_value digit) }
 {
-    if number <= LARGEST {
+    if number <= LARGEST / 10 {
         number * 10 + u64::from(digit - b'0')
     } else {
-        number
+        LARGEST + 1
     }
 }
 
@@ -305,9 +303,9 @@ fn has_letter(text: &[u8]) -> bool
 #[inline(always)]
 pub fn read_number(text: &[u8], scale: Scale) -> Option<(ReadNumber, &[u8])>
     ensures { answer_view result
-        ≡ number_answer greatest_coordinate scale (number_at scale text.now) }
+        ≡ number_answer (greatest_units (limits_of scale)) scale (number_at scale text.now) }
 {
-    read_number_to(text, scale, LIMIT as u64)
+    read_number_to(text, scale, scale.limits().units())
 }
 
 /// Reads the number at the start of a text, in range if its absolute value is at most `most` units,

@@ -17,7 +17,7 @@ use crate::number::{ReadNumber, rounded_up, sign, signed_number, with_digit};
 use crate::scale::Scale;
 
 /// A whole number other than 0 that is followed by this many zeros is out of range.
-const MOST_ZEROS: usize = 13;
+const MOST_ZEROS: usize = 19;
 
 /// The digits at the start of the text, and the text after them.
 fn split_digits(text: &[u8]) -> (&[u8], &[u8])

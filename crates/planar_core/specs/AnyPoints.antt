@@ -80,14 +80,16 @@ any_in_range g h f positive is =
     elim (dec_lt ((greatest_distance * greatest_distance) * f.1) f.0) [
       | yes more ↦ absurd (∥∥₁_elim (is_geometry g) never_is_one (λ good_g.
           ∥∥₁_elim (is_geometry h) never_is_one (λ good_h.
-          let few = (within_by_fraction (HasPlace g) (HasPlace h) f.0 f.1 greatest_distance positive is).1
+          let few = (within_by_fraction (HasPlace g) (HasPlace h) f.0 f.1 greatest_distance
+          positive is).1
           (within_greatest (figure_of g) (figure_of h) good_g.0 good_h.0) in
           omega (arith, few, more))))
       | no le ↦ omega (arith, le)
     ]
 
 -- and no two are beyond the greatest distance
-pub any_in_plane : (g h : AnyGeometry) → ¬ (¬ (AreWithin greatest_distance (HasPlace g) (HasPlace h)))
+pub any_in_plane : (g h : AnyGeometry)
+    → ¬ (¬ (AreWithin greatest_distance (HasPlace g) (HasPlace h)))
 any_in_plane g h beyond =
     ∥∥₁_elim (is_geometry g) never_is_one (λ good_g.
     ∥∥₁_elim (is_geometry h) never_is_one (λ good_h.

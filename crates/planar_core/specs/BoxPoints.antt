@@ -6,7 +6,7 @@ use Rattle.geom_core.specs.declared.span.Span.{Span}
 use Rattle.geom_core.specs.declared.shape.Shape.{Shape}
 use Rattle.plane_core.specs.Points.{Point, IsSamePlace}
 use Rattle.plane_core.proofs.Ring.{monomials}
-use Rattle.distance_core.specs.Limits.{greatest_distance}
+use Rattle.distance_core.specs.Limits.{greatest_distance, greatest_gap}
 use Rattle.distance_core.specs.Distances.{difference, AreWithin}
 use Rattle.distance_core.specs.ShapePoints.{HasNumber, HasPoint}
 use Rattle.distance_core.proofs.MeetingLemmas.{within_by_fraction}
@@ -51,7 +51,7 @@ box_at_place g p q wide_p wide_q same in_ = (
 )
 
 -- two boxes are in the plane
-coordinates_within : (a b : Span) → nat_abs (difference a.lo 1 b.lo 1) ≤ 2000000000000
+coordinates_within : (a b : Span) → nat_abs (difference a.lo 1 b.lo 1) ≤ greatest_gap
 coordinates_within a b =
     let p = a.above in
     let q = a.ordered in

@@ -56,10 +56,11 @@ pub trait Planar: Geometry {
         // a square exactly where the closed geometries are at most the distance apart
         ensures within { IfOk result (λ found. IsSome found
             ↔ AreWithin (units_of distance) (has_point first.now) (has_point second.now)) }
-        // the least squared distance of a point of the one and a point of the other: two points reach
-        // it, and no two are nearer
+        // the least squared distance of a point of the one and a point of the other: two points
+        // reach it, and no two are nearer
         ensures square { IfOk result (λ found. IfSome found (λ square.
-            IsSquareOf (Self.Square.fraction square) (has_point first.now) (has_point second.now))) };
+            IsSquareOf (Self.Square.fraction square)
+            (has_point first.now) (has_point second.now))) };
 
     /// The square of the distance of two such geometries, if that of their boxes tells it.
     fn square_of_boxes(square: SquaredDistance) -> Option<Self::Square>

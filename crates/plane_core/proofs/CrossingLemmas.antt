@@ -299,7 +299,7 @@ no_meeting e f h = record {
     back d t h k = omega (arith, ints)
 
 -- the point that divides an edge is on it
-between_divided : (a b n w : ℤ) → pos 0 ≤ℤ n → n ≤ℤ w → pos 0 <ℤ w → is_between a b (nat_abs w) (w *ℤ a -ℤ n *ℤ (a -ℤ b)) ≡ true
+pub between_divided : (a b n w : ℤ) → pos 0 ≤ℤ n → n ≤ℤ w → pos 0 <ℤ w → is_between a b (nat_abs w) (w *ℤ a -ℤ n *ℤ (a -ℤ b)) ≡ true
 between_divided a b n w hn hw positive = rw (abs_positive w positive) (by_lt_z b a down up)
   where
     z : ℤ

@@ -13,8 +13,10 @@ pub mod LevelLemmas
 pub mod NodeLemmas
 pub mod OffLemmas
 pub mod OnePlaneMatrix
+pub mod OrderLemmas
 pub mod OutlineLemmas
 pub mod PartScaleLemmas
+pub mod PlaceLemmas
 pub mod QuotientLemmas
 pub mod ReachLemmas
 pub mod Ring

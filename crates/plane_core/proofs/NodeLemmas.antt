@@ -1,125 +1,87 @@
--- The numbers of the middle of two nodes, and of the point that divides an edge, fit into 128 bits.
-use Rattle.std.proofs.Common.{◌≡◌, ◌≤◌, ◌*◌, ◌+◌, ◌^◌, ℕ, to_z, of_z, arith, ap, refl, ◌∙◌}
-use Rattle.std.specs.Prelude.{ℤ, pos, ◌*ℤ◌, ◌-ℤ◌, ◌+ℤ◌, ◌<ℤ◌, ◌≤ℤ◌, nat_abs}
+-- The numbers of the mediant of two nodes, of an edge's part up to a vertex, and of a meeting.
+use Rattle.std.proofs.Common.{◌≡◌, ◌≤◌, ◌*◌, ◌+◌, inl, inr, true, ℕ, to_z, of_z, arith, ap, sym, subst, refl, ◌∙◌}
+use Rattle.std.specs.Prelude.{ℤ, pos, ◌≢◌, ◌*ℤ◌, ◌-ℤ◌, ◌+ℤ◌, neg_ℤ, ◌<ℤ◌, ◌≤ℤ◌, nat_abs, ◌&&◌, int_le}
 use Rattle.std.specs.Int.{w128}
-use Rattle.std.specs.Ordering.{int_cmp, ordering_then}
+use Rattle.std.specs.Ordering.{ordering_then}
 use Rattle.std.specs.declared.cmp.Ordering.{Ordering}
 use Rattle.std.specs.declared.cmp.Ordering.TheVariants.{Less, Equal, Greater}
-use Rattle.std.proofs.Math.Nat.{mul-le-mul}
-use Rattle.std.proofs.lemmas.Int.{ints, unsigned_abs-mul}
+use Rattle.std.proofs.lemmas.Int.{ints}
+use Rattle.plane_core.specs.declared.edge.Edge.{Edge}
 use Rattle.plane_core.specs.declared.node.Node.{Node}
 use Rattle.plane_core.specs.declared.place.Place.{Place}
+use Rattle.plane_core.specs.declared.vertex.Vertex.{Vertex}
 use Rattle.plane_core.specs.Limits.{greatest_coordinate, greatest_turn, greatest_width, IsCoordinate}
-use Rattle.plane_core.specs.Points.{Point}
-use Rattle.plane_core.proofs.Ring.{monomials}
-use Rattle.plane_core.proofs.HeldLemmas.{held_below, abs_positive}
+use Rattle.plane_core.specs.Points.{Point, at, mix, run, rise, side, is_between, is_on, IsSamePlace}
+use Rattle.plane_core.specs.Meetings.{divided, part_of_way}
+use Rattle.plane_core.specs.Places.{point_of}
+use Rattle.plane_core.proofs.Ring.{monomials, one-times}
+use Rattle.plane_core.proofs.HeldLemmas.{held_way, held_turn, abs_positive}
+use Rattle.plane_core.proofs.FormLemmas.{by_zero, no_zero_divisor}
+use Rattle.plane_core.proofs.CheckLemmas.{and_first, and_second}
+use Rattle.plane_core.proofs.CrossingLemmas.{or_either, true_le, level_of, along_x_of, along_y_of}
+use Rattle.plane_core.proofs.PlaceLemmas.{held_width}
 
 pub same_point : (p q : Point) → p.x ≡ q.x → p.y ≡ q.y → p.w ≡ q.w → p ≡ q
 same_point p q h k l = λ i. record { x = h i; y = k i; w = l i }
 
-abbrev pub greatest_number : ℕ
-greatest_number = greatest_coordinate * greatest_width
+-- the mediant of two nodes
+part_narrow : (n w : ℤ) → pos 0 ≤ℤ n → n ≤ℤ w → nat_abs w ≤ greatest_turn → nat_abs n ≤ greatest_turn
+part_narrow n w h k l = omega (arith, ints)
 
--- sums
-sum_below : (a b : ℤ) (m : ℕ) → nat_abs a ≤ m → nat_abs b ≤ m → nat_abs (a +ℤ b) ≤ 2 * m
-sum_below a b m h k = omega (arith, ints)
+n_narrow : (k : Node) → nat_abs k.place.n ≤ greatest_turn
+n_narrow k = part_narrow k.place.n k.place.w k.place.not_before k.place.not_beyond k.narrow
 
-pub sum_held : (a b : ℤ) → nat_abs a ≤ greatest_number → nat_abs b ≤ greatest_number
+sum_held : (a b : ℤ) → nat_abs a ≤ greatest_turn → nat_abs b ≤ greatest_turn
     → to_z w128 (of_z w128 (to_z w128 (of_z w128 a) +ℤ to_z w128 (of_z w128 b))) ≡ a +ℤ b
-sum_held a b h k = rw (
-  held_below a greatest_number h (omega arith),
-  held_below b greatest_number k (omega arith),
-  held_below (a +ℤ b) (2 * greatest_number) (sum_below a b greatest_number h k) (omega arith),
-) refl
+sum_held a b h k = rw (held_turn a h, held_turn b k, held_width (a +ℤ b) (sum a b h k)) refl
+  where
+    sum : (a b : ℤ) → nat_abs a ≤ greatest_turn → nat_abs b ≤ greatest_turn → nat_abs (a +ℤ b) ≤ greatest_width
+    sum a b h k = omega (arith, ints)
 
-coordinate_below : (x w : ℤ) → nat_abs w ≤ greatest_width → nat_abs x ≤ greatest_coordinate * nat_abs w → nat_abs x ≤ greatest_number
-coordinate_below x w h k = omega arith
+pub middle_n : (k l : Node) → to_z w128 (of_z w128 (to_z w128 (of_z w128 k.place.n) +ℤ to_z w128 (of_z w128 l.place.n))) ≡ k.place.n +ℤ l.place.n
+middle_n k l = sum_held k.place.n l.place.n (n_narrow k) (n_narrow l)
 
-width_below : (w : ℤ) → nat_abs w ≤ greatest_width → nat_abs w ≤ greatest_number
-width_below w h = omega arith
+pub middle_w : (k l : Node) → to_z w128 (of_z w128 (to_z w128 (of_z w128 k.place.w) +ℤ to_z w128 (of_z w128 l.place.w))) ≡ k.place.w +ℤ l.place.w
+middle_w k l = sum_held k.place.w l.place.w k.narrow l.narrow
 
-pub x_below : (p : Place) → nat_abs p.x ≤ greatest_number
-x_below p = coordinate_below p.x p.w p.w_in_range p.x_in_range
-
-pub y_below : (p : Place) → nat_abs p.y ≤ greatest_number
-y_below p = coordinate_below p.y p.w p.w_in_range p.y_in_range
-
-pub w_below : (p : Place) → nat_abs p.w ≤ greatest_number
-w_below p = width_below p.w p.w_in_range
-
--- the middle of two nodes
-pub middle_positive : (k l : Place) → pos 0 <ℤ to_z w128 (of_z w128 (to_z w128 (of_z w128 k.w) +ℤ to_z w128 (of_z w128 l.w)))
-middle_positive k l = rw (sum_held k.w l.w (w_below k) (w_below l)) (plain k.w l.w k.positive l.positive)
+pub sum_positive : (k l : Node) → pos 0 <ℤ (k.place.w +ℤ l.place.w)
+sum_positive k l = plain k.place.w l.place.w k.place.positive l.place.positive
   where
     plain : (a b : ℤ) → pos 0 <ℤ a → pos 0 <ℤ b → pos 0 <ℤ (a +ℤ b)
     plain a b h k = omega (arith, ints)
 
-pub middle_narrow : (k l : Node)
-    → nat_abs (to_z w128 (of_z w128 (to_z w128 (of_z w128 k.place.w) +ℤ to_z w128 (of_z w128 l.place.w)))) ≤ greatest_width
-middle_narrow k l = rw (sum_held k.place.w l.place.w (w_below k.place) (w_below l.place)) (plain k.place.w l.place.w k.narrow l.narrow)
+pub sum_not_before : (k l : Node) → pos 0 ≤ℤ (k.place.n +ℤ l.place.n)
+sum_not_before k l = plain k.place.n l.place.n k.place.not_before l.place.not_before
+  where
+    plain : (a b : ℤ) → pos 0 ≤ℤ a → pos 0 ≤ℤ b → pos 0 ≤ℤ (a +ℤ b)
+    plain a b h k = omega (arith, ints)
+
+pub sum_not_beyond : (k l : Node) → (k.place.n +ℤ l.place.n) ≤ℤ (k.place.w +ℤ l.place.w)
+sum_not_beyond k l = plain k.place.n l.place.n k.place.w l.place.w k.place.not_beyond l.place.not_beyond
+  where
+    plain : (a b c d : ℤ) → a ≤ℤ c → b ≤ℤ d → (a +ℤ b) ≤ℤ (c +ℤ d)
+    plain a b c d h k = omega (arith, ints)
+
+pub sum_wide : (k l : Node) → nat_abs (k.place.w +ℤ l.place.w) ≤ greatest_width
+sum_wide k l = plain k.place.w l.place.w k.narrow l.narrow
   where
     plain : (a b : ℤ) → nat_abs a ≤ greatest_turn → nat_abs b ≤ greatest_turn → nat_abs (a +ℤ b) ≤ greatest_width
     plain a b h k = omega (arith, ints)
 
-middle_plain : (a b x y : ℤ) → pos 0 <ℤ a → pos 0 <ℤ b → nat_abs x ≤ greatest_coordinate * nat_abs a → nat_abs y ≤ greatest_coordinate * nat_abs b
-    → nat_abs (x +ℤ y) ≤ greatest_coordinate * nat_abs (a +ℤ b)
-middle_plain a b x y ha hb h k = omega (arith, ints)
-
-pub middle_x : (k l : Place)
-    → nat_abs (to_z w128 (of_z w128 (to_z w128 (of_z w128 k.x) +ℤ to_z w128 (of_z w128 l.x))))
-    ≤ greatest_coordinate * nat_abs (to_z w128 (of_z w128 (to_z w128 (of_z w128 k.w) +ℤ to_z w128 (of_z w128 l.w))))
-middle_x k l =
-    rw (sum_held k.x l.x (x_below k) (x_below l), sum_held k.w l.w (w_below k) (w_below l))
-    (middle_plain k.w l.w k.x l.x k.positive l.positive k.x_in_range l.x_in_range)
-
-pub middle_y : (k l : Place)
-    → nat_abs (to_z w128 (of_z w128 (to_z w128 (of_z w128 k.y) +ℤ to_z w128 (of_z w128 l.y))))
-    ≤ greatest_coordinate * nat_abs (to_z w128 (of_z w128 (to_z w128 (of_z w128 k.w) +ℤ to_z w128 (of_z w128 l.w))))
-middle_y k l =
-    rw (sum_held k.y l.y (y_below k) (y_below l), sum_held k.w l.w (w_below k) (w_below l))
-    (middle_plain k.w l.w k.y l.y k.positive l.positive k.y_in_range l.y_in_range)
-
-once : (a b : ℤ) → a +ℤ b ≡ pos 1 *ℤ a +ℤ pos 1 *ℤ b
-once a b = simp monomials (omega (arith, ints))
-
-pub middle_sum : (a b : ℤ) → nat_abs a ≤ greatest_number → nat_abs b ≤ greatest_number
-    → to_z w128 (of_z w128 (to_z w128 (of_z w128 a) +ℤ to_z w128 (of_z w128 b))) ≡ pos 1 *ℤ a +ℤ pos 1 *ℤ b
-middle_sum a b h k = sum_held a b h k ∙ once a b
-
-pub middle_width : (k l : Place)
-    → nat_abs (to_z w128 (of_z w128 (to_z w128 (of_z w128 k.w) +ℤ to_z w128 (of_z w128 l.w)))) ≡ 1 * nat_abs k.w + 1 * nat_abs l.w
-middle_width k l = ap nat_abs (sum_held k.w l.w (w_below k) (w_below l)) ∙ plain k.w l.w k.positive l.positive
+pub middle_point : (k l : Node) (n w : ℤ) → k.place.edge ≡ l.place.edge → n ≡ k.place.n +ℤ l.place.n → w ≡ k.place.w +ℤ l.place.w
+    → divided k.place.edge n w ≡ mix 1 (point_of k.place) 1 (point_of l.place)
+middle_point k l n w same en ew =
+    let p = k.place in
+    let q = l.place in
+    subst (λ (f : Edge). divided p.edge n w ≡ mix 1 (point_of p) 1 (divided f q.n q.w)) same
+    (same_point _ _ (axis p.n p.w q.n q.w n w p.edge.a.x p.edge.b.x en ew) (axis p.n p.w q.n q.w n w p.edge.a.y p.edge.b.y en ew)
+    (ap nat_abs ew ∙ width p.w q.w p.positive q.positive))
   where
-    plain : (a b : ℤ) → pos 0 <ℤ a → pos 0 <ℤ b → nat_abs (a +ℤ b) ≡ 1 * nat_abs a + 1 * nat_abs b
-    plain a b h k = omega (arith, ints)
+    axis : (n w m v i j a b : ℤ) → i ≡ n +ℤ m → j ≡ w +ℤ v → part_of_way a b i j ≡ pos 1 *ℤ part_of_way a b n w +ℤ pos 1 *ℤ part_of_way a b m v
+    axis n w m v i j a b h l = rw (h, l) (simp monomials (omega (arith, ints)))
 
-pub width_positive : (p : Place) → pos 0 <ℤ to_z w128 (of_z w128 p.w)
-width_positive p = rw (held_below p.w greatest_number (w_below p) (omega arith)) p.positive
-
--- the order of two points along an axis
-pub order_x : (o : Ordering) (p q : Place)
-    → o ≡ int_cmp (to_z w128 (of_z w128 p.x) *ℤ to_z w128 (of_z w128 q.w)) (to_z w128 (of_z w128 q.x) *ℤ to_z w128 (of_z w128 p.w))
-    → o ≡ int_cmp (p.x *ℤ pos (nat_abs q.w)) (q.x *ℤ pos (nat_abs p.w))
-order_x o p q h =
-    let plain : o ≡ int_cmp (p.x *ℤ q.w) (q.x *ℤ p.w) = rw (
-      held_below p.x greatest_number (x_below p) (omega arith),
-      held_below q.w greatest_number (w_below q) (omega arith),
-      held_below q.x greatest_number (x_below q) (omega arith),
-      held_below p.w greatest_number (w_below p) (omega arith),
-    ) at h in
-    rw (abs_positive p.w p.positive, abs_positive q.w q.positive) plain
-
-pub order_y : (o : Ordering) (p q : Place)
-    → o ≡ int_cmp (to_z w128 (of_z w128 p.y) *ℤ to_z w128 (of_z w128 q.w)) (to_z w128 (of_z w128 q.y) *ℤ to_z w128 (of_z w128 p.w))
-    → o ≡ int_cmp (p.y *ℤ pos (nat_abs q.w)) (q.y *ℤ pos (nat_abs p.w))
-order_y o p q h =
-    let plain : o ≡ int_cmp (p.y *ℤ q.w) (q.y *ℤ p.w) = rw (
-      held_below p.y greatest_number (y_below p) (omega arith),
-      held_below q.w greatest_number (w_below q) (omega arith),
-      held_below q.y greatest_number (y_below q) (omega arith),
-      held_below p.w greatest_number (w_below p) (omega arith),
-    ) at h in
-    rw (abs_positive p.w p.positive, abs_positive q.w q.positive) plain
+    width : (w v : ℤ) → pos 0 <ℤ w → pos 0 <ℤ v → nat_abs (w +ℤ v) ≡ 1 * nat_abs w + 1 * nat_abs v
+    width w v h k = omega (arith, ints)
 
 pub then_less : (o r : Ordering) → Less ≡ o → Less ≡ ordering_then o r
 then_less o r h = ap (λ (t : Ordering). ordering_then t r) h
@@ -130,77 +92,149 @@ then_equal o r t h k = k ∙ ap (λ (s : Ordering). ordering_then s r) h
 pub then_greater : (o r : Ordering) → Greater ≡ o → Greater ≡ ordering_then o r
 then_greater o r h = ap (λ (t : Ordering). ordering_then t r) h
 
--- a point that divides an edge
-pub held_product : (a b : ℤ) (m n : ℕ) → nat_abs a ≤ m → nat_abs b ≤ n → m ≤ 2 ^ 126 → n ≤ 2 ^ 126 → m * n ≤ 2 ^ 125
-    → nat_abs (to_z w128 (of_z w128 a)) * nat_abs (to_z w128 (of_z w128 b)) ≤ 2 ^ 125
-held_product a b m n h k hm hn l = rw (held_below a m h hm, held_below b n k hn) (plain (nat_abs a) (nat_abs b) h k)
-  where
-    plain : (i j : ℕ) → i ≤ m → j ≤ n → i * j ≤ 2 ^ 125
-    plain i j e f = let p = mul-le-mul e f in omega arith
+-- a number between two others along an axis, by its distance from the first
+pub record IsAlongWay (length across : ℤ) : Type 0 where
+  pub within : nat_abs across ≤ nat_abs length
+  pub scaled : (n w : ℤ) → n *ℤ pos (nat_abs length) ≡ pos (nat_abs across) *ℤ w → n *ℤ length ≡ across *ℤ w
 
-pub part_below : (n w : ℤ) (m : ℕ) → pos 0 ≤ℤ n → n ≤ℤ w → nat_abs w ≤ m → nat_abs n ≤ m
-part_below n w m h k l = omega (arith, ints)
-
-product_below : (a b : ℤ) (n : ℕ) → nat_abs b ≤ n → nat_abs (a *ℤ b) ≤ nat_abs a * n
-product_below a b n h = let l = mul-le-mul (le_refl (nat_abs a)) h in omega (arith, unsigned_abs-mul a b)
+pub along_way : (a b v : ℤ) → is_between a b 1 v ≡ true → IsAlongWay (b -ℤ a) (v -ℤ a)
+along_way a b v h = elim (or_either (int_le (pos 1 *ℤ a) v && int_le v (pos 1 *ℤ b)) (int_le (pos 1 *ℤ b) v && int_le v (pos 1 *ℤ a)) h) [
+  | inl k ↦ up (b -ℤ a) (v -ℤ a) (from_first a v (true_le (pos 1 *ℤ a) v (and_first (int_le (pos 1 *ℤ a) v) (int_le v (pos 1 *ℤ b)) k)))
+      (to_last a b v (true_le v (pos 1 *ℤ b) (and_second (int_le (pos 1 *ℤ a) v) (int_le v (pos 1 *ℤ b)) k)))
+  | inr k ↦ down (b -ℤ a) (v -ℤ a) (to_first a v (true_le v (pos 1 *ℤ a) (and_second (int_le (pos 1 *ℤ b) v) (int_le v (pos 1 *ℤ a)) k)))
+      (from_last a b v (true_le (pos 1 *ℤ b) v (and_first (int_le (pos 1 *ℤ b) v) (int_le v (pos 1 *ℤ a)) k)))
+]
   where
-    le_refl : (m : ℕ) → m ≤ m
-    le_refl m = omega arith
+    from_first : (a v : ℤ) → (pos 1 *ℤ a) ≤ℤ v → pos 0 ≤ℤ (v -ℤ a)
+    from_first a v h = omega (arith, ints, one-times a)
 
-pub divided_below : (a b n w : ℤ) → pos 0 ≤ℤ n → n ≤ℤ w → nat_abs a ≤ greatest_coordinate → nat_abs b ≤ greatest_coordinate
-    → nat_abs (w *ℤ a -ℤ n *ℤ (a -ℤ b)) ≤ greatest_coordinate * nat_abs w
-divided_below a b n w hn hw ha hb =
-    rw ring (plain ((w -ℤ n) *ℤ a) (n *ℤ b) (nat_abs (w -ℤ n)) (nat_abs n) (nat_abs w)
-    (product_below (w -ℤ n) a greatest_coordinate ha) (product_below n b greatest_coordinate hb) (parts n w hn hw))
+    to_last : (a b v : ℤ) → v ≤ℤ (pos 1 *ℤ b) → (v -ℤ a) ≤ℤ (b -ℤ a)
+    to_last a b v h = omega (arith, ints, one-times b)
+
+    to_first : (a v : ℤ) → v ≤ℤ (pos 1 *ℤ a) → (v -ℤ a) ≤ℤ pos 0
+    to_first a v h = omega (arith, ints, one-times a)
+
+    from_last : (a b v : ℤ) → (pos 1 *ℤ b) ≤ℤ v → (b -ℤ a) ≤ℤ (v -ℤ a)
+    from_last a b v h = omega (arith, ints, one-times b)
+
+    up : (d u : ℤ) → pos 0 ≤ℤ u → u ≤ℤ d → IsAlongWay d u
+    up d u h k = record {
+      within = omega (arith, ints);
+      scaled = λ n w e. rw (own d (omega (arith, ints)), own u h) at e;
+    }
+      where
+        own : (z : ℤ) → pos 0 ≤ℤ z → pos (nat_abs z) ≡ z
+        own z h = omega (arith, ints)
+
+    down : (d u : ℤ) → u ≤ℤ pos 0 → d ≤ℤ u → IsAlongWay d u
+    down d u h k = record {
+      within = omega (arith, ints);
+      scaled = λ n w e. turned n d u w (rw (own d (omega (arith, ints)), own u h) at e);
+    }
+      where
+        own : (z : ℤ) → z ≤ℤ pos 0 → pos (nat_abs z) ≡ neg_ℤ z
+        own z h = omega (arith, ints)
+
+        turned : (n d u w : ℤ) → n *ℤ neg_ℤ d ≡ neg_ℤ u *ℤ w → n *ℤ d ≡ u *ℤ w
+        turned n d u w e = first ∙ ap neg_ℤ e ∙ last
+          where
+            first : n *ℤ d ≡ neg_ℤ (n *ℤ neg_ℤ d)
+            first = simp monomials (omega (arith, ints))
+
+            last : neg_ℤ (neg_ℤ u *ℤ w) ≡ u *ℤ w
+            last = simp monomials (omega (arith, ints))
+
+-- a factor that isn't 0 is cancelled
+cancelled : (k a b : ℤ) → k ≢ pos 0 → k *ℤ a ≡ k *ℤ b → a ≡ b
+cancelled k a b some h = by_zero (a -ℤ b) (λ off. absurd (no_zero_divisor k (a -ℤ b) some off zero)) (same a b)
   where
-    ring : w *ℤ a -ℤ n *ℤ (a -ℤ b) ≡ (w -ℤ n) *ℤ a +ℤ n *ℤ b
+    zero : k *ℤ (a -ℤ b) ≡ pos 0
+    zero = apart ∙ none (k *ℤ a) (k *ℤ b) h
+      where
+        apart : k *ℤ (a -ℤ b) ≡ k *ℤ a -ℤ k *ℤ b
+        apart = simp monomials (omega (arith, ints))
+
+        none : (m n : ℤ) → m ≡ n → m -ℤ n ≡ pos 0
+        none m n h = omega (arith, ints)
+
+    same : (a b : ℤ) → a -ℤ b ≡ pos 0 → a ≡ b
+    same a b h = omega (arith, ints)
+
+-- the way to a vertex is the same part of the edge along both axes
+other_axis : (n w r d u v : ℤ) → r ≢ pos 0 → r *ℤ v ≡ d *ℤ u → n *ℤ r ≡ u *ℤ w → n *ℤ d ≡ v *ℤ w
+other_axis n w r d u v some level h = cancelled r (n *ℤ d) (v *ℤ w) some (first ∙ rw h (second ∙ rw (sym level) third))
+  where
+    first : r *ℤ (n *ℤ d) ≡ (n *ℤ r) *ℤ d
+    first = simp monomials (omega (arith, ints))
+
+    second : (u *ℤ w) *ℤ d ≡ (d *ℤ u) *ℤ w
+    second = simp monomials (omega (arith, ints))
+
+    third : (r *ℤ v) *ℤ w ≡ r *ℤ (v *ℤ w)
+    third = simp monomials (omega (arith, ints))
+
+axis_same : (n w m a b v : ℤ) → m ≡ w → n *ℤ (b -ℤ a) ≡ (v -ℤ a) *ℤ w → part_of_way a b n w *ℤ pos 1 ≡ v *ℤ m
+axis_same n w m a b v h e = ring ∙ rw (h) (ap (λ (z : ℤ). w *ℤ a +ℤ z) e ∙ last)
+  where
+    ring : part_of_way a b n w *ℤ pos 1 ≡ w *ℤ a +ℤ n *ℤ (b -ℤ a)
     ring = simp monomials (omega (arith, ints))
 
-    parts : (n w : ℤ) → pos 0 ≤ℤ n → n ≤ℤ w → nat_abs (w -ℤ n) + nat_abs n ≡ nat_abs w
-    parts n w h k = omega (arith, ints)
+    last : w *ℤ a +ℤ (v -ℤ a) *ℤ w ≡ v *ℤ w
+    last = simp monomials (omega (arith, ints))
 
-    plain : (i j : ℤ) (r s t : ℕ) → nat_abs i ≤ r * greatest_coordinate → nat_abs j ≤ s * greatest_coordinate → r + s ≡ t
-        → nat_abs (i +ℤ j) ≤ greatest_coordinate * t
-    plain i j r s t h k e = omega (arith, ints)
-
--- the numerator of such a point, as a 128-bit value
-pub along_held : (r w f a b n k : ℤ) → pos 0 ≤ℤ n → n ≤ℤ w → nat_abs w ≤ greatest_turn
-    → nat_abs a ≤ greatest_coordinate → nat_abs b ≤ greatest_coordinate → f ≡ a → k ≡ a -ℤ b
-    → r ≡ to_z w128 (of_z w128 w) *ℤ to_z w128 (of_z w128 f) -ℤ to_z w128 (of_z w128 n) *ℤ to_z w128 (of_z w128 k)
-    → to_z w128 (of_z w128 r) ≡ w *ℤ a -ℤ n *ℤ (a -ℤ b)
-along_held r w f a b n k hn hw narrow ha hb ef ek e =
-    let value : r ≡ w *ℤ a -ℤ n *ℤ (a -ℤ b) = rw (
-      ef,
-      ek,
-      held_below w greatest_turn narrow (omega arith),
-      held_below a greatest_coordinate ha (omega arith),
-      held_below n greatest_turn (part_below n w greatest_turn hn hw narrow) (omega arith),
-      held_below (a -ℤ b) (2 * greatest_coordinate) (difference a b ha hb) (omega arith),
-    ) at e in
-    let small : nat_abs r ≤ greatest_coordinate * nat_abs w = rw value (divided_below a b n w hn hw ha hb) in
-    held_below r (greatest_coordinate * greatest_turn) (wide (nat_abs r) (nat_abs w) small narrow) (omega arith) ∙ value
+level_made : (e : Edge) (v : Vertex) → side e (at v) ≡ pos 0 → run e *ℤ (v.y -ℤ e.a.y) ≡ rise e *ℤ (v.x -ℤ e.a.x)
+level_made e v h = plain _ _ (rw (one-times e.a.x, one-times e.a.y) at h)
   where
-    difference : (a b : ℤ) → nat_abs a ≤ greatest_coordinate → nat_abs b ≤ greatest_coordinate → nat_abs (a -ℤ b) ≤ 2 * greatest_coordinate
-    difference a b h k = omega (arith, ints)
+    plain : (m n : ℤ) → m -ℤ n ≡ pos 0 → m ≡ n
+    plain m n h = omega (arith, ints)
 
-    wide : (m n : ℕ) → m ≤ greatest_coordinate * n → n ≤ greatest_turn → m ≤ greatest_coordinate * greatest_turn
-    wide m n h k = omega arith
+vertex_made : (e : Edge) (v : Vertex) (p : Place) → p.edge ≡ e → p.n *ℤ run e ≡ (v.x -ℤ e.a.x) *ℤ p.w → p.n *ℤ rise e ≡ (v.y -ℤ e.a.y) *ℤ p.w
+    → IsSamePlace (point_of p) (at v)
+vertex_made e v p same h k =
+    let w = abs_positive p.w p.positive in
+    subst (λ (f : Edge). IsSamePlace (divided f p.n p.w) (at v)) (sym same)
+    (axis_same p.n p.w _ e.a.x e.b.x v.x w h, axis_same p.n p.w _ e.a.y e.b.y v.y w k)
 
-pub along_below : (r w a b n : ℤ) → pos 0 ≤ℤ n → n ≤ℤ w → nat_abs w ≤ greatest_turn
-    → nat_abs a ≤ greatest_coordinate → nat_abs b ≤ greatest_coordinate
-    → to_z w128 (of_z w128 r) ≡ w *ℤ a -ℤ n *ℤ (a -ℤ b)
-    → nat_abs (to_z w128 (of_z w128 r)) ≤ greatest_coordinate * nat_abs (to_z w128 (of_z w128 w))
-along_below r w a b n hn hw narrow ha hb e =
-    rw (e, held_below w greatest_turn narrow (omega arith)) (divided_below a b n w hn hw ha hb)
+pub along_x : (e : Edge) (v : Vertex) → is_on e (at v) ≡ true → IsAlongWay (run e) (v.x -ℤ e.a.x)
+along_x e v on = along_way e.a.x e.b.x v.x (along_x_of e (at v) on)
 
-pub held_narrow : (w : ℤ) → nat_abs w ≤ greatest_turn → to_z w128 (of_z w128 w) ≡ w
-held_narrow w h = held_below w greatest_turn h (omega arith)
+pub along_y : (e : Edge) (v : Vertex) → is_on e (at v) ≡ true → IsAlongWay (rise e) (v.y -ℤ e.a.y)
+along_y e v on = along_way e.a.y e.b.y v.y (along_y_of e (at v) on)
 
-pub narrow_width : (w : ℤ) → nat_abs w ≤ greatest_turn → nat_abs (to_z w128 (of_z w128 w)) ≤ greatest_width
-narrow_width w h = rw (held_narrow w h) (plain (nat_abs w) h)
+pub vertex_by_x : (e : Edge) (v : Vertex) (p : Place) → is_on e (at v) ≡ true → p.edge ≡ e → run e ≢ pos 0
+    → p.n *ℤ pos (nat_abs (run e)) ≡ pos (nat_abs (v.x -ℤ e.a.x)) *ℤ p.w → IsSamePlace (point_of p) (at v)
+vertex_by_x e v p on same some h =
+    let x = (along_x e v on).scaled p.n p.w h in
+    vertex_made e v p same x (other_axis p.n p.w (run e) (rise e) (v.x -ℤ e.a.x) (v.y -ℤ e.a.y) some (level_made e v (level_of e (at v) on)) x)
+
+pub vertex_by_y : (e : Edge) (v : Vertex) (p : Place) → is_on e (at v) ≡ true → p.edge ≡ e → run e ≡ pos 0
+    → p.n *ℤ pos (nat_abs (rise e)) ≡ pos (nat_abs (v.y -ℤ e.a.y)) *ℤ p.w → IsSamePlace (point_of p) (at v)
+vertex_by_y e v p on same none h =
+    let u = v.x -ℤ e.a.x in
+    let zero : u ≡ pos 0 = no_way u (subst (λ (z : ℤ). nat_abs u ≤ nat_abs z) none (along_x e v on).within) in
+    vertex_made e v p same (level p.n (run e) u p.w none zero) ((along_y e v on).scaled p.n p.w h)
   where
-    plain : (n : ℕ) → n ≤ greatest_turn → n ≤ greatest_width
-    plain n h = omega arith
+    no_way : (u : ℤ) → nat_abs u ≤ 0 → u ≡ pos 0
+    no_way u h = omega (arith, ints)
 
+    level : (n r u w : ℤ) → r ≡ pos 0 → u ≡ pos 0 → n *ℤ r ≡ u *ℤ w
+    level n r u w h k = rw (h, k) (simp monomials (omega (arith, ints)))
+
+-- a distance along an axis, as 128 bits hold it
+pub abs_held : (r u z : ℤ) → nat_abs u ≤ 2 * greatest_coordinate → u ≡ z → r ≡ pos (nat_abs (to_z w128 (of_z w128 u)))
+    → to_z w128 (of_z w128 r) ≡ pos (nat_abs z)
+abs_held r u z h e k =
+    let value : r ≡ pos (nat_abs z) = k ∙ ap (λ (t : ℤ). pos (nat_abs t)) (held_way u h ∙ e) in
+    held_way r (subst (λ (t : ℤ). nat_abs t ≤ 2 * greatest_coordinate) (sym value) (subst (λ (t : ℤ). nat_abs t ≤ 2 * greatest_coordinate) e h)) ∙ value
+
+pub abs_beyond : (r s u v y z : ℤ) → nat_abs u ≤ 2 * greatest_coordinate → nat_abs v ≤ 2 * greatest_coordinate → u ≡ y → v ≡ z
+    → r ≡ pos (nat_abs (to_z w128 (of_z w128 u))) → s ≡ pos (nat_abs (to_z w128 (of_z w128 v))) → IsAlongWay z y
+    → to_z w128 (of_z w128 r) ≤ℤ to_z w128 (of_z w128 s)
+abs_beyond r s u v y z hu hv eu ev er es way = rw (abs_held r u y hu eu er, abs_held s v z hv ev es) (plain (nat_abs y) (nat_abs z) way.within)
+  where
+    plain : (m n : ℕ) → m ≤ n → pos m ≤ℤ pos n
+    plain m n h = omega (arith, ints)
+
+-- a coordinate
 pub coordinate_size : (a : ℤ) → IsCoordinate a → nat_abs a ≤ greatest_coordinate
 coordinate_size a h = omega (arith, ints)

@@ -39,6 +39,19 @@ no_less_scaled k a b hk h = plain _ _ _ ring (times_not_negative k (b -ℤ a) (o
     plain : (z m n : ℤ) → z ≡ n -ℤ m → pos 0 ≤ℤ z → m ≤ℤ n
     plain z m n e g = omega (arith, ints)
 
+-- and is cancelled
+pub cancel_le : (w a b : ℤ) → pos 0 <ℤ w → (w *ℤ a) ≤ℤ (w *ℤ b) → a ≤ℤ b
+cancel_le w a b hw h = by_lt_z b a (λ less. absurd (no _ _ (less_scaled w b a hw less) h)) (λ le. le)
+  where
+    no : (m n : ℤ) → m <ℤ n → n ≤ℤ m → ⊥
+    no m n h k = omega (arith, ints)
+
+pub cancel_lt : (w a b : ℤ) → pos 0 <ℤ w → (w *ℤ a) <ℤ (w *ℤ b) → a <ℤ b
+cancel_lt w a b hw h = by_lt_z a b (λ less. less) (λ le. absurd (no _ _ (no_less_scaled w b a hw le) h))
+  where
+    no : (m n : ℤ) → m ≤ℤ n → n <ℤ m → ⊥
+    no m n h k = omega (arith, ints)
+
 pub lt_agree : (a b c d : ℤ) → a <ℤ b → c <ℤ d → int_lt c d ≡ int_lt a b
 lt_agree a b c d h g = grind (arith, ints)
 

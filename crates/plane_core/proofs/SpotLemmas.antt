@@ -240,3 +240,7 @@ lie_over e p lie wide down on below at_or_below =
       at_or_below = at_or_below ∙ sym (missed (is_from_to e.a.x e.b.x p.w p.x) (is_from_to e.b.x e.a.x p.w p.x) (int_le (pos 0) (side e p)) (int_le (side e p) (pos 0))
           (λ h. le_false _ _ (right h)) (λ h. le_false _ _ (left h)));
     }
+
+-- two numbers of which each is at most the other
+pub le_both : (m n : ℤ) → (int_le m n && int_le n m) ≡ int_eq n m
+le_both m n = grind (arith, ints)

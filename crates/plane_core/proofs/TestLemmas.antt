@@ -1,19 +1,18 @@
 -- The results of the tests of a point against vertices and edges, on 128-bit values.
-use Rattle.std.proofs.Common.{◌≡◌, ◌≤◌, ◌*◌, ◌+◌, ℕ, to_z, of_z, w64, true, false, arith, ap, sym, refl, ◌∙◌}
-use Rattle.std.specs.Prelude.{ℤ, pos, Bool, ◌&&◌, ◌||◌, ◌*ℤ◌, ◌-ℤ◌, ◌<ℤ◌, int_lt, int_le, nat_abs, nat_eq}
+use Rattle.std.proofs.Common.{◌≡◌, ◌≤◌, ◌*◌, ◌+◌, to_z, of_z, w64, true, false, arith, ap, sym, refl, ◌∙◌}
+use Rattle.std.specs.Prelude.{ℤ, pos, Bool, ◌&&◌, ◌||◌, ◌*ℤ◌, ◌-ℤ◌, int_lt, int_le, nat_abs}
 use Rattle.std.specs.Int.{w128}
 use Rattle.std.specs.Ordering.{int_cmp, int_eq, is_eq, is_lt, is_gt, is_le, is_ge}
 use Rattle.std.specs.declared.cmp.Ordering.{Ordering}
 use Rattle.std.proofs.lemmas.Int.{ints}
 use Rattle.plane_core.specs.declared.vertex.Vertex.{Vertex}
 use Rattle.plane_core.specs.declared.edge.Edge.{Edge}
-use Rattle.plane_core.specs.declared.place.Place.{Place}
 use Rattle.plane_core.specs.declared.place.Lie.{Lie}
-use Rattle.plane_core.specs.Limits.{greatest_coordinate, greatest_turn, greatest_width}
+use Rattle.plane_core.specs.Limits.{greatest_coordinate, greatest_turn}
 use Rattle.plane_core.specs.Points.{Point, side, at, is_on, is_between, is_from_to}
-use Rattle.plane_core.specs.Places.{point_of, IsLie}
-use Rattle.plane_core.proofs.Ring.{one-times, times-one, times_comm}
-use Rattle.plane_core.proofs.HeldLemmas.{held_below, held_way, held_turn, turn_below, abs_positive}
+use Rattle.plane_core.specs.Places.{IsLie}
+use Rattle.plane_core.proofs.Ring.{one-times}
+use Rattle.plane_core.proofs.HeldLemmas.{held_way, held_turn, turn_below}
 
 pub held_x : (v : Vertex) → to_z w64 (of_z w64 v.x) ≡ v.x
 held_x v = omega (arith, ints)
@@ -62,68 +61,7 @@ on_made e v level along_x along_y l f g =
     ∙ ap (λ (t : Bool). int_eq (side e (at v)) (pos 0) && t && along_y) x
     ∙ ap (λ (t : Bool). int_eq (side e (at v)) (pos 0) && is_between e.a.x e.b.x 1 v.x && t) y
 
--- an offset from a vertex, times w, and 0
-abbrev pub greatest_offset : ℕ
-greatest_offset = 2 * greatest_coordinate * greatest_width
-
-pub held_offset : (r : ℤ) → nat_abs r ≤ greatest_offset → to_z w128 (of_z w128 r) ≡ r
-held_offset r h = held_below r _ h (omega arith)
-
-from_plain : (r x m : ℤ) → r ≡ x -ℤ m → int_le (pos 0) r ≡ int_le m x
-from_plain r x m h = grind (arith, ints)
-
-to_plain : (r x m : ℤ) → r ≡ x -ℤ m → int_le r (pos 0) ≡ int_le x m
-to_plain r x m h = grind (arith, ints)
-
-before_plain : (r x m : ℤ) → r ≡ x -ℤ m → int_lt r (pos 0) ≡ int_lt x m
-before_plain r x m h = grind (arith, ints)
-
-level_plain : (r x m : ℤ) → r ≡ x -ℤ m → int_eq r (pos 0) ≡ int_eq x m
-level_plain r x m h = grind (arith, ints)
-
-zero_bits : (r : ℤ) → nat_abs r ≤ greatest_offset → nat_eq (of_z w128 r) 0 ≡ int_eq r (pos 0)
-zero_bits r h = grind (arith, ints)
-
-pub from_test : (r x w v : ℤ) → pos 0 <ℤ w → nat_abs r ≤ greatest_offset → r ≡ x -ℤ w *ℤ v
-    → int_le (pos 0) (to_z w128 (of_z w128 r)) ≡ int_le (pos (nat_abs w) *ℤ v) x
-from_test r x w v hw b e = rw (held_offset r b, abs_positive w hw) (from_plain r x (w *ℤ v) e)
-
-pub to_test : (r x w v : ℤ) → pos 0 <ℤ w → nat_abs r ≤ greatest_offset → r ≡ x -ℤ w *ℤ v
-    → int_le (to_z w128 (of_z w128 r)) (pos 0) ≡ int_le x (pos (nat_abs w) *ℤ v)
-to_test r x w v hw b e = rw (held_offset r b, abs_positive w hw) (to_plain r x (w *ℤ v) e)
-
-pub before_test : (r x w v : ℤ) → pos 0 <ℤ w → nat_abs r ≤ greatest_offset → r ≡ x -ℤ w *ℤ v
-    → int_lt (to_z w128 (of_z w128 r)) (pos 0) ≡ int_lt x (pos (nat_abs w) *ℤ v)
-before_test r x w v hw b e = rw (held_offset r b, abs_positive w hw) (before_plain r x (w *ℤ v) e)
-
-pub level_test : (r x w v : ℤ) → pos 0 <ℤ w → nat_abs r ≤ greatest_offset → r ≡ x -ℤ w *ℤ v
-    → nat_eq (of_z w128 r) 0 ≡ int_eq x (pos (nat_abs w) *ℤ v)
-level_test r x w v hw b e = zero_bits r b ∙ rw (abs_positive w hw) (level_plain r x (w *ℤ v) e)
-
 -- a point and an edge
-cmp_difference : (m n : ℤ) → int_cmp m n ≡ int_cmp (m -ℤ n) (pos 0)
-cmp_difference m n = grind (arith, ints)
-
--- a point and a vertex along an axis
-pub run_order : (o : Ordering) (r x w v : ℤ) → pos 0 <ℤ w → nat_abs r ≤ greatest_offset → r ≡ x -ℤ w *ℤ v
-    → o ≡ int_cmp (to_z w128 (of_z w128 r)) (pos 0) → o ≡ int_cmp (x *ℤ pos 1) (v *ℤ pos (nat_abs w))
-run_order o r x w v hw b e f =
-    let plain : o ≡ int_cmp r (pos 0) = rw (held_offset r b) at f in
-    rw (abs_positive w hw, times-one x, times_comm v w)
-    (plain ∙ ap (λ (z : ℤ). int_cmp z (pos 0)) e ∙ sym (cmp_difference x (w *ℤ v)))
-
-pub side_order : (o : Ordering) (e : Edge) (p : Place) (run rise across up : ℤ)
-    → nat_abs run ≤ 2 * greatest_coordinate → nat_abs rise ≤ 2 * greatest_coordinate
-    → nat_abs across ≤ greatest_offset → nat_abs up ≤ greatest_offset
-    → run ≡ e.b.x -ℤ e.a.x → rise ≡ e.b.y -ℤ e.a.y → across ≡ p.x -ℤ p.w *ℤ e.a.x → up ≡ p.y -ℤ p.w *ℤ e.a.y
-    → o ≡ int_cmp (to_z w128 (of_z w128 run) *ℤ to_z w128 (of_z w128 up))
-    (to_z w128 (of_z w128 rise) *ℤ to_z w128 (of_z w128 across))
-    → o ≡ int_cmp (side e (point_of p)) (pos 0)
-side_order o e p run rise across up hr hi ha hu h k l m f =
-    let same : run *ℤ up -ℤ rise *ℤ across ≡ side e (point_of p) = rw (h, k, l, m, abs_positive p.w p.positive) refl in
-    let plain : o ≡ int_cmp (run *ℤ up) (rise *ℤ across) = rw (held_way run hr, held_way rise hi, held_offset across ha, held_offset up hu) at f in
-    plain ∙ cmp_difference (run *ℤ up) (rise *ℤ across) ∙ ap (λ (z : ℤ). int_cmp z (pos 0)) same
-
 level_order : (s : ℤ) → is_eq (int_cmp s (pos 0)) ≡ int_eq s (pos 0)
 level_order s = refl
 

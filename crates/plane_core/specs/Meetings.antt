@@ -3,11 +3,15 @@ use Rattle.std.specs.Prelude.{◌≡◌, ◌≢◌, ℤ, pos, ◌<◌, ◌*ℤ�
 use Rattle.plane_core.specs.declared.edge.Edge.{Edge}
 use Rattle.plane_core.specs.Points.{Point, is_on, turn_of}
 
+-- w times the number at the fraction n / w of the way from one number to another
+abbrev pub part_of_way : ℤ → ℤ → ℤ → ℤ → ℤ
+part_of_way a b n w = w *ℤ a -ℤ n *ℤ (a -ℤ b)
+
 -- the point of an edge at the fraction n / w of its length
 abbrev pub divided : Edge → ℤ → ℤ → Point
 divided e n w = record {
-  x = w *ℤ e.a.x -ℤ n *ℤ (e.a.x -ℤ e.b.x);
-  y = w *ℤ e.a.y -ℤ n *ℤ (e.a.y -ℤ e.b.y);
+  x = part_of_way e.a.x e.b.x n w;
+  y = part_of_way e.a.y e.b.y n w;
   w = nat_abs w;
 }
 

@@ -1,5 +1,5 @@
--- The points of the plane that the program represents by triples.
-use Rattle.std.specs.Prelude.{◌≡◌, nat_abs, pos, ◌*ℤ◌}
+-- The points that places of edges represent, and the order of points.
+use Rattle.std.specs.Prelude.{◌≡◌, pos, ◌*ℤ◌}
 use Rattle.std.specs.Ordering.{int_cmp, ordering_then}
 use Rattle.std.specs.declared.cmp.Ordering.{Ordering}
 use Rattle.plane_core.specs.declared.node.Node.{Node}
@@ -7,9 +7,10 @@ use Rattle.plane_core.specs.declared.place.Place.{Place}
 use Rattle.plane_core.specs.declared.place.Lie.{Lie}
 use Rattle.plane_core.specs.declared.edge.Edge.{Edge}
 use Rattle.plane_core.specs.Points.{Point, is_on, is_below, is_at_or_below}
+use Rattle.plane_core.specs.Meetings.{divided}
 
 abbrev pub point_of : Place → Point
-point_of p = record { x = p.x; y = p.y; w = nat_abs p.w }
+point_of p = divided p.edge p.n p.w
 
 abbrev pub node_point : Node → Point
 node_point n = point_of n.place

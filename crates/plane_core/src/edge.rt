@@ -4,10 +4,12 @@ ghost use Rattle.std.specs.Prelude.{◌≡◌, ◌≤◌, ◌↔◌, pos, nat_ab
 ghost use Rattle.std.specs.Ordering.{int_eq};
 ghost use Rattle.plane_core.specs.Limits.{greatest_turn};
 ghost use Rattle.plane_core.specs.Points.{at, run, side, turn_of, is_between, is_on};
+ghost use Rattle.plane_core.specs.Places.{place_order};
 ghost use Rattle.plane_core.specs.Boxes.{does_reach, do_overlap, do_boxes_meet};
 
 use crate::cross::cross;
 use crate::vertex::Vertex;
+use std::cmp::Ordering;
 
 /// The segment from `a` to `b`.
 #[derive(Clone, Copy, PartialEq, Eq)]
@@ -49,6 +51,16 @@ impl Edge {
         ensures { IsTrue result ↔ (run self.now ≡ pos 0) }
     {
         self.a.x == self.b.x
+    }
+
+    /// The order of the ends by first coordinate, and then by second.
+    #[inline]
+    pub fn direction(&self) -> Ordering
+        ensures { result ≡ place_order (at self.now.a) (at self.now.b) }
+    {
+        let across = self.a.x.cmp(&self.b.x);
+        let upward = self.a.y.cmp(&self.b.y);
+        across.then(upward)
     }
 
     /// The cross product of the edge and the vector from `a` to a vertex: positive if the vertex is

@@ -1,19 +1,18 @@
-//! A point at which edges end or meet, and the order of such points.
+//! A point at which edges end or meet, and the order of such points of one edge.
 
-ghost use Rattle.std.specs.Prelude.{◌≡◌, ◌≤◌, IsTrue, IfSome, IfNone};
+ghost use Rattle.std.specs.Prelude.{◌≡◌, ◌≤◌, IsTrue, IfSome, IfNone, true};
 ghost use Rattle.std.specs.Prelude.{◌*ℤ◌, ◌<ℤ◌, ◌≤ℤ◌, int_lt, pos, nat_abs};
 ghost use Rattle.std.specs.Ordering.{int_cmp};
 ghost use Rattle.plane_core.specs.Limits.{greatest_turn};
 ghost use Rattle.plane_core.specs.Crossings.{is_zero_between, is_not_zero, do_cross};
 
-use crate::cross::cross;
 use crate::edge::Edge;
 use crate::place::Place;
 use crate::vertex::Vertex;
 use std::cmp::Ordering;
 use wide_core::compare_products;
 
-/// A vertex, or the intersection of two edges that aren't parallel.
+/// A vertex on an edge, or the intersection of an edge with another that isn't parallel.
 #[derive(Clone, Copy)]
 pub struct Node {
     pub place: Place,
@@ -73,16 +72,40 @@ fn compare_fractions(x: i128, w: i128, z: i128, v: i128) -> Ordering
 }
 
 impl Node {
-    ghost use Rattle.plane_core.specs.Points.{at, mix};
+    ghost use Rattle.plane_core.specs.Points.{at, mix, is_on, IsSamePlace};
     ghost use Rattle.plane_core.specs.Places.{point_of, node_point, place_order};
-    ghost use Rattle.plane_core.specs.Meetings.{divided, IsMeeting, HaveNoMeeting};
+    ghost use Rattle.plane_core.specs.Meetings.{IsMeeting, HaveNoMeeting};
 
-    /// A vertex.
-    pub fn at(v: &Vertex) -> Node
-        ensures { node_point result ≡ at v.now }
+    /// A vertex on an edge.
+    pub fn on(e: &Edge, v: &Vertex) -> Node
+        requires { is_on e.now (at v.now) ≡ true }
+        // a place of the edge
+        ensures edge { result.place.edge ≡ e.now }
+        // that of the vertex
+        ensures same { IsSamePlace (node_point result) (at v.now) }
     {
-        Node {
-            place: Place::at(v),
+        if e.is_vertical() {
+            Node::reduced(e, e.a.rise_to(v).abs(), e.a.rise_to(&e.b).abs())
+        } else {
+            Node::reduced(e, e.a.run_to(v).abs(), e.a.run_to(&e.b).abs())
+        }
+    }
+
+    /// The same as `along`, where an end of the edge has the least denominator.
+    #[inline]
+    fn reduced(e: &Edge, n: i128, w: i128) -> Node
+        requires not_before { pos 0 ≤ℤ n }
+        requires not_beyond { n ≤ℤ w }
+        requires narrow { nat_abs w ≤ greatest_turn }
+        ensures edge { result.place.edge ≡ e.now }
+        ensures fraction { result.place.n *ℤ w ≡ n *ℤ result.place.w }
+    {
+        if n == 0 {
+            Node::along(e, 0, 1)
+        } else if n == w {
+            Node::along(e, 1, 1)
+        } else {
+            Node::along(e, n, w)
         }
     }
 
@@ -90,6 +113,8 @@ impl Node {
     pub fn meeting(e: &Edge, f: &Edge) -> Option<Node>
         // the point that two edges share which aren't parallel
         ensures some { IfSome result (λ n. IsMeeting e.now f.now (node_point n)) }
+        // a place of the first edge
+        ensures edge { IfSome result (λ n. n.place.edge ≡ e.now) }
         // they share none, or are parallel
         ensures none { IfNone result (HaveNoMeeting e.now f.now) }
     {
@@ -103,7 +128,8 @@ impl Node {
     /// The intersection of two edges that cross.
     fn crossing(e: &Edge, f: &Edge) -> Node
         requires { IsTrue (do_cross e.now f.now) }
-        ensures { IsMeeting e.now f.now (node_point result) }
+        ensures meeting { IsMeeting e.now f.now (node_point result) }
+        ensures edge { result.place.edge ≡ e.now }
     {
         let side = f.side_of(&e.a);
         let turn = e.turn_to(f);
@@ -115,61 +141,54 @@ impl Node {
     }
 
     /// The point of an edge at the fraction `n / w` of its length from `a`.
+    #[inline]
     fn along(e: &Edge, n: i128, w: i128) -> Node
         requires not_before { pos 0 ≤ℤ n }
         requires not_beyond { n ≤ℤ w }
         requires positive { pos 0 <ℤ w }
         requires narrow { nat_abs w ≤ greatest_turn }
-        ensures { node_point result ≡ divided e.now n w }
+        ensures edge { result.place.edge ≡ e.now }
+        ensures n { result.place.n ≡ n }
+        ensures w { result.place.w ≡ w }
     {
-        let run_back = e.b.run_to(&e.a);
-        let rise_back = e.b.rise_to(&e.a);
-        let x = cross(w, i128::from(e.a.x), n, run_back);
-        let y = cross(w, i128::from(e.a.y), n, rise_back);
         Node {
-            place: Place { x, y, w },
+            place: Place { edge: *e, n, w },
         }
     }
 
-    /// The mediant of two nodes, by the sums of their numerators and of their denominators: a point
-    /// strictly between them if they differ.
+    /// The mediant of two nodes of one edge, by the sums of their numerators and of their
+    /// denominators: a point strictly between them if they differ.
     pub fn middle(&self, other: &Node) -> Place
+        requires { self.now.place.edge ≡ other.now.place.edge }
         ensures { point_of result ≡ mix 1 (node_point self.now) 1 (node_point other.now) }
     {
         let (k, l) = (&self.place, &other.place);
         Place {
-            x: k.x + l.x,
-            y: k.y + l.y,
+            edge: k.edge,
+            n: k.n + l.n,
             w: k.w + l.w,
         }
     }
 
-    /// The order by first coordinate, and then by second.
+    /// The order by first coordinate, and then by second, of two nodes of one edge.
     pub fn compare(&self, other: &Node) -> Ordering
+        requires { self.now.place.edge ≡ other.now.place.edge }
         ensures { result ≡ place_order (node_point self.now) (node_point other.now) }
     {
-        match self.compare_x(other) {
-            Ordering::Less => Ordering::Less,
-            Ordering::Equal => self.compare_y(other),
-            Ordering::Greater => Ordering::Greater,
+        match self.place.edge.direction() {
+            Ordering::Less => self.compare_along(other),
+            Ordering::Equal => Ordering::Equal,
+            Ordering::Greater => other.compare_along(self),
         }
     }
 
-    /// The order by first coordinate.
-    fn compare_x(&self, other: &Node) -> Ordering
-        ensures { let p = node_point self.now in
-            let q = node_point other.now in
-            result ≡ int_cmp (p.x *ℤ pos q.w) (q.x *ℤ pos p.w) }
+    /// The order of the fractions of two nodes. For nodes of one edge it is that from `a` to `b`.
+    #[inline]
+    pub fn compare_along(&self, other: &Node) -> Ordering
+        ensures { let p = self.now.place in
+            let q = other.now.place in
+            result ≡ int_cmp (p.n *ℤ q.w) (q.n *ℤ p.w) }
     {
-        compare_fractions(self.place.x, self.place.w, other.place.x, other.place.w)
-    }
-
-    /// The order by second coordinate.
-    fn compare_y(&self, other: &Node) -> Ordering
-        ensures { let p = node_point self.now in
-            let q = node_point other.now in
-            result ≡ int_cmp (p.y *ℤ pos q.w) (q.y *ℤ pos p.w) }
-    {
-        compare_fractions(self.place.y, self.place.w, other.place.y, other.place.w)
+        compare_fractions(self.place.n, self.place.w, other.place.n, other.place.w)
     }
 }

@@ -1,14 +1,20 @@
 //! A point with the integers next to its coordinates, by which most edges lie to it.
 
-ghost use Rattle.std.specs.Prelude.{◌≡◌, ◌*◌, ◌≤◌, ◌<ℤ◌, pos, nat_abs};
+ghost use Rattle.std.specs.Prelude.{◌≡◌, ◌*◌, ◌≤◌, ◌^◌, pos, nat_abs, IsTrue};
+ghost use Rattle.std.specs.Prelude.{◌<ℤ◌, ◌≤ℤ◌, ◌-ℤ◌, ◌*ℤ◌};
+ghost use Rattle.std.specs.Ordering.{int_cmp};
 ghost use Rattle.geom_core.specs.Shapes.{x1, y1, x2, y2};
-ghost use Rattle.plane_core.specs.Limits.{greatest_coordinate, greatest_width};
+ghost use Rattle.plane_core.specs.Limits.{IsCoordinate};
+ghost use Rattle.plane_core.specs.Meetings.{part_of_way};
+ghost use Rattle.plane_core.specs.Places.{point_of};
 ghost use Rattle.plane_core.specs.Spots.{IsFloor, IsCeiling};
 
 use crate::edge::Edge;
 use crate::place::{Lie, Place};
 use crate::vertex::Vertex;
-use geom_core::{LIMIT, Shape};
+use geom_core::Shape;
+use std::cmp::Ordering;
+use wide_core::compare_products;
 
 /// A point with the greatest integers that aren't above its coordinates, and the least that aren't
 /// below. A vertex lies to the point as it lies to these, so that no product is computed; an edge
@@ -20,41 +26,155 @@ pub struct Spot {
     right: i64,
     low: i64,
     high: i64,
-    ghost left_is: { IsFloor (nat_abs place.w) place.x left },
-    ghost right_is: { IsCeiling (nat_abs place.w) place.x right },
-    ghost low_is: { IsFloor (nat_abs place.w) place.y low },
-    ghost high_is: { IsCeiling (nat_abs place.w) place.y high },
+    ghost left_is: { IsFloor (nat_abs place.w) (point_of place).x left },
+    ghost right_is: { IsCeiling (nat_abs place.w) (point_of place).x right },
+    ghost low_is: { IsFloor (nat_abs place.w) (point_of place).y low },
+    ghost high_is: { IsCeiling (nat_abs place.w) (point_of place).y high },
 }
 
-/// The greatest integer that isn't above `z / w`, and the least that isn't below.
-fn next_to(z: i128, w: i128) -> (i64, i64)
+/// A number up to this times any way between two coordinates fits into 127 bits.
+const WIDE: i128 = 1 << 64;
+
+/// The greatest length of a short way.
+const SHORT: i64 = 1 << 42;
+
+/// A number up to this times a short way fits into 127 bits.
+const NARROW: i128 = 1 << 84;
+
+/// Whether a way is at most `SHORT` in length.
+#[inline]
+fn is_short(way: i64) -> bool
+    ensures { IsTrue result → nat_abs way ≤ 4398046511104 }
+{
+    -SHORT <= way && way <= SHORT
+}
+
+/// Whether the product of a part of the width and the way from `a` to `b` fits into 127 bits.
+#[inline]
+fn does_fit(a: i64, b: i64, w: i128) -> bool
+    requires a { IsCoordinate a }
+    requires b { IsCoordinate b }
     requires positive { pos 0 <ℤ w }
-    requires wide { nat_abs w ≤ greatest_width }
-    requires in_range { nat_abs z ≤ greatest_coordinate * nat_abs w }
-    ensures floor { IsFloor (nat_abs w) z result.0 }
-    ensures ceiling { IsCeiling (nat_abs w) z result.1 }
+    ensures { IsTrue result → nat_abs w * nat_abs (b -ℤ a) ≤ 2 ^ 126 }
+{
+    if w <= WIDE {
+        true
+    } else if w <= NARROW {
+        is_short(b - a)
+    } else {
+        false
+    }
+}
+
+/// The first end of the way from `a` to `b` at the fraction 0, and the last one at 1.
+#[inline]
+fn end_at(a: i64, b: i64, n: i128) -> i64
+    requires not_before { pos 0 ≤ℤ n }
+    requires not_beyond { n ≤ℤ pos 1 }
+    ensures { result ≡ part_of_way a b n (pos 1) }
+{
+    if n == 0 { a } else { b }
+}
+
+/// The greatest integer that isn't above the coordinate `a + n / w (b - a)`, and the least that
+/// isn't below.
+#[inline]
+fn next_to(a: i64, b: i64, n: i128, w: i128) -> (i64, i64)
+    requires a { IsCoordinate a }
+    requires b { IsCoordinate b }
+    requires not_before { pos 0 ≤ℤ n }
+    requires not_beyond { n ≤ℤ w }
+    requires positive { pos 0 <ℤ w }
+    ensures floor { IsFloor (nat_abs w) (part_of_way a b n w) result.0 }
+    ensures ceiling { IsCeiling (nat_abs w) (part_of_way a b n w) result.1 }
 {
     if w == 1 {
-        let whole = z as i64;
+        let whole = end_at(a, b, n);
         (whole, whole)
+    } else if does_fit(a, b, w) {
+        divided(a, b, n, w)
     } else {
-        divided(z, w)
+        bisected(a, b, n, w)
     }
 }
 
 /// The same, by a division.
-fn divided(z: i128, w: i128) -> (i64, i64)
+fn divided(a: i64, b: i64, n: i128, w: i128) -> (i64, i64)
+    requires a { IsCoordinate a }
+    requires b { IsCoordinate b }
+    requires not_before { pos 0 ≤ℤ n }
+    requires not_beyond { n ≤ℤ w }
     requires positive { pos 0 <ℤ w }
-    requires wide { nat_abs w ≤ greatest_width }
-    requires in_range { nat_abs z ≤ greatest_coordinate * nat_abs w }
-    ensures floor { IsFloor (nat_abs w) z result.0 }
-    ensures ceiling { IsCeiling (nat_abs w) z result.1 }
+    requires fits { nat_abs w * nat_abs (b -ℤ a) ≤ 2 ^ 126 }
+    ensures floor { IsFloor (nat_abs w) (part_of_way a b n w) result.0 }
+    ensures ceiling { IsCeiling (nat_abs w) (part_of_way a b n w) result.1 }
 {
-    let width = w.unsigned_abs();
-    let raised = (z + w * i128::from(LIMIT)).unsigned_abs();
-    let quotient = raised / width;
-    let floor = quotient as i64 - LIMIT;
-    if quotient * width == raised {
+    let product = n * i128::from(b - a);
+    let quotient = product.div_euclid(w);
+    let floor = a + quotient as i64;
+    if quotient * w == product {
+        (floor, floor)
+    } else {
+        (floor, floor + 1)
+    }
+}
+
+/// The order of the coordinate `a + n / w (b - a)` and an integer.
+#[inline]
+fn compare_part(a: i64, b: i64, n: i128, w: i128, v: i64) -> Ordering
+    requires a { IsCoordinate a }
+    requires b { IsCoordinate b }
+    requires v { IsCoordinate v }
+    ensures { result ≡ int_cmp (part_of_way a b n w) (w *ℤ v) }
+{
+    compare_products(n, i128::from(b - a), w, i128::from(v - a))
+}
+
+/// The lesser of two coordinates.
+#[inline]
+fn lesser(a: i64, b: i64) -> i64
+    requires a { IsCoordinate a }
+    requires b { IsCoordinate b }
+    ensures within { IsCoordinate result }
+    ensures first { result ≤ℤ a }
+    ensures second { result ≤ℤ b }
+{
+    if a < b { a } else { b }
+}
+
+/// The greater of two coordinates.
+#[inline]
+fn greater(a: i64, b: i64) -> i64
+    requires a { IsCoordinate a }
+    requires b { IsCoordinate b }
+    ensures within { IsCoordinate result }
+    ensures first { a ≤ℤ result }
+    ensures second { b ≤ℤ result }
+{
+    if a < b { b } else { a }
+}
+
+/// The same, by bisection, for numbers whose product doesn't fit into 128 bits.
+fn bisected(a: i64, b: i64, n: i128, w: i128) -> (i64, i64)
+    requires a { IsCoordinate a }
+    requires b { IsCoordinate b }
+    requires not_before { pos 0 ≤ℤ n }
+    requires not_beyond { n ≤ℤ w }
+    requires positive { pos 0 <ℤ w }
+    ensures floor { IsFloor (nat_abs w) (part_of_way a b n w) result.0 }
+    ensures ceiling { IsCeiling (nat_abs w) (part_of_way a b n w) result.1 }
+{
+    let mut floor = lesser(a, b);
+    let mut above = greater(a, b) + 1;
+    while floor + 1 < above {
+        let middle = floor + (above - floor) / 2;
+        if compare_part(a, b, n, w, middle).is_ge() {
+            floor = middle;
+        } else {
+            above = middle;
+        }
+    }
+    if compare_part(a, b, n, w, floor).is_eq() {
         (floor, floor)
     } else {
         (floor, floor + 1)
@@ -86,9 +206,9 @@ fn greatest_corner(s: &Shape) -> Vertex
 }
 
 impl Spot {
-    ghost use Rattle.std.specs.Prelude.{◌*ℤ◌, int_le, int_lt, IsTrue, true};
-    ghost use Rattle.plane_core.specs.Points.{is_between, is_from_to};
-    ghost use Rattle.plane_core.specs.Places.{point_of, IsLie};
+    ghost use Rattle.std.specs.Prelude.{int_le, int_lt, true};
+    ghost use Rattle.plane_core.specs.Points.{is_at, is_between, is_from_to};
+    ghost use Rattle.plane_core.specs.Places.{IsLie};
     ghost use Rattle.plane_core.specs.Boxes.{is_over};
     ghost use Rattle.plane_core.specs.Spots.{are_above, are_below};
 
@@ -96,8 +216,9 @@ impl Spot {
     pub fn of(place: &Place) -> Spot
         ensures { result.place ≡ place.now }
     {
-        let (left, right) = next_to(place.x, place.w);
-        let (low, high) = next_to(place.y, place.w);
+        let (a, b) = (&place.edge.a, &place.edge.b);
+        let (left, right) = next_to(a.x, b.x, place.n, place.w);
+        let (low, high) = next_to(a.y, b.y, place.n, place.w);
         Spot {
             place: *place,
             left,
@@ -161,6 +282,16 @@ impl Spot {
         ensures { let p = point_of self.now.place in result ≡ int_lt p.y (pos p.w *ℤ v.now.y) }
     {
         self.low < v.y
+    }
+
+    /// Whether the point equals a vertex.
+    #[inline]
+    pub fn is_at(&self, v: &Vertex) -> bool
+        ensures { result ≡ is_at v.now (point_of self.now.place) }
+    {
+        let along_x = self.is_from_x(v) & self.is_to_x(v);
+        let along_y = self.is_from_y(v) & self.is_to_y(v);
+        along_x & along_y
     }
 
     /// Whether the point is within the extent of a shape along the first axis, and not below it.

@@ -12,8 +12,9 @@ Geometries are points, segments along an axis and rectangles, as well-known text
 With --geometry any they are points, polylines and polygons of any direction, and MULTI forms.
 
 A coordinate has no decimals, or up to K with --scale K; counted in units of the last decimal, its
-absolute value is at most 1000000000000. With --round it may have any number of decimals, and an
-exponent as in 1.5e-7; it is read as the nearest one of K decimals, a half away from zero.
+absolute value is at most 1000000000000, or 1000000000000000000 with --geometry any. With --round
+it may have any number of decimals, and an exponent as in 1.5e-7; it is read as the nearest one of K
+decimals, a half away from zero.
 
 The path - stands for standard input, for at most one file of a command.
 
@@ -110,7 +111,7 @@ right one, and 0 if they share a point. The report has the pairs whose distance 
 --distance, which is decided exactly, and with --apart only those that share no point.
 
 The number after --distance is read as a coordinate is, with --scale and --round, and is 0 to
-4000000000000 units of the last decimal.
+4000000000000 units of the last decimal, or to 4000000000000000000 with --geometry any.
 
 The report is CSV: left,right,distance, and for each pair the two ids and the distance, rounded to
 the nearest unit of the last decimal. Neither --workers nor --batch nor --cut changes the report.
@@ -151,7 +152,7 @@ right ones as --most says, and all that are as far away as the last of these; wi
 those that are at most so far away. Distances are compared exactly.
 
 The number after --distance is read as a coordinate is, with --scale and --round, and is 0 to
-4000000000000 units of the last decimal.
+4000000000000 units of the last decimal, or to 4000000000000000000 with --geometry any.
 
 The report is CSV: left,right,distance, and for each pair the two ids and the distance, rounded to
 the nearest unit of the last decimal. It is in the order of the left file, then by distance, then in

@@ -12,7 +12,10 @@ use Rattle.plane_core.specs.Vertices.{paths_in}
 use Rattle.wkt_core.specs.declared.keyword.Keyword.{Keyword}
 use Rattle.wkt_core.specs.declared.keyword.Keyword.TheVariants.{Point, LineString, Polygon}
 use Rattle.wkt_core.specs.declared.position.Position.{Position}
+use Rattle.number_core.specs.declared.limits.Limits.TheVariants.{Any}
 use Rattle.number_core.specs.declared.scale.Scale.{Scale}
+use Rattle.number_core.specs.ScaleLimits.{IsWithin}
+use Rattle.number_core.specs.Scales.{limits_of, IsInRange}
 use Rattle.wkt_core.specs.Drawing.{is_same, without_repeats, without_repeats_of}
 use Rattle.wkt_core.specs.Grammar.{RawPoint, Blanks, PointText, PointList, Listed, InParentheses}
 use Rattle.wkt_core.specs.Spelling.{HasGoodNumbers, AllNumbersGood, position, positions}
@@ -150,7 +153,10 @@ text_printed scale heading lists word body h b = record {
   joined = refl;
 }
 
-module _ (scale : Scale) where
+module _ (scale : Scale) (wide : limits_of scale ≡ Any) where
+  in_range : (v : Vertex) → IsInRange scale v.x × IsInRange scale v.y
+  in_range v = subst (λ l. IsWithin l v.x × IsWithin l v.y) (sym wide) (v.x_in_range, v.y_in_range)
+
   abbrev polygon_text : List Vertex → List ℕ
   polygon_text ring = part_text scale true ring
 
@@ -159,7 +165,7 @@ module _ (scale : Scale) where
 
   vertex_printed : (v : Vertex) → PointText scale (raw_of v) (vertex_text scale v)
   unfolding raw_of
-  vertex_printed v = point_printed scale (position_of v) (v.x_in_range, v.y_in_range)
+  vertex_printed v = point_printed scale (position_of v) (in_range v)
 
   path_printed : (path : List Vertex) → IsFilled path → PointList scale (map raw_of path) (path_text scale path)
   path_printed path some = items_enclosed (PointText scale) raw_of (vertex_text scale) (λ _. Unit {0}) (λ v h. vertex_printed v) path some (all_any path)
@@ -244,7 +250,7 @@ module _ (scale : Scale) where
   path_positions : (path : List Vertex) → map (position scale) (map raw_of path) ≡ map position_of path
   unfolding raw_of
   path_positions [] = refl
-  path_positions (v ∷ vs) = ap₂ (λ (p : Position) (ps : List Position). p ∷ ps) (position_printed scale (position_of v) (v.x_in_range, v.y_in_range)) (path_positions vs)
+  path_positions (v ∷ vs) = ap₂ (λ (p : Position) (ps : List Position). p ∷ ps) (position_printed scale (position_of v) (in_range v)) (path_positions vs)
 
   all_positions : (paths : List (List Vertex)) → positions scale (map (map raw_of) paths) ≡ positions_of paths
   all_positions [] = refl
@@ -253,7 +259,7 @@ module _ (scale : Scale) where
   path_good : (path : List Vertex) → AllByRecursion (HasGoodNumbers scale) (map raw_of path)
   unfolding raw_of
   path_good [] = tt
-  path_good (v ∷ vs) = (good_point scale (position_of v) (v.x_in_range, v.y_in_range), path_good vs)
+  path_good (v ∷ vs) = (good_point scale (position_of v) (in_range v), path_good vs)
 
   all_good : (paths : List (List Vertex)) → AllNumbersGood scale (map (map raw_of) paths)
   all_good [] = tt

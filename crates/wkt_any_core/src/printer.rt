@@ -2,6 +2,7 @@
 
 ghost use Rattle.std.specs.Prelude.{◌≡◌, ◌++◌, List, Option, Ok, IfOk, OnOk, codes};
 ghost use Rattle.std.specs.String.{string_bytes};
+ghost use Rattle.number_core.specs.Scales.{limits_of};
 ghost use Rattle.plane_core.specs.declared.rings.Rings.{Rings};
 ghost use Rattle.plane_core.specs.Vertices.{paths_in};
 ghost use Rattle.wkt_core.specs.declared.keyword.Keyword.{Keyword};
@@ -13,7 +14,7 @@ ghost use Rattle.wkt_any_core.specs.Readings.{Reads, ReadsAs};
 
 use plane_core::{Geometry, Vertex};
 use std::alloc::{AllocError, Global};
-use wkt_core::{Position, Scale, push_point};
+use wkt_core::{Limits, Position, Scale, push_point};
 
 /// Adds the separator before the item at this index.
 #[tactic(auto, using(crate::proofs::PrinterLemmas::before_item))]
@@ -201,10 +202,10 @@ pub fn print(alloc: Global, geometry: &Geometry, scale: Scale) -> Result<String,
     ensures text { IfOk result (λ text. string_bytes text ≡ canonical scale geometry.now) }
     // A geometry that was read, by any rule and at any scale, is printed such that it reads the
     // same.
-    // a geometry that was read is spelled by it, under the same rule for rings and at any scale, so
-    // that it is read again
+    // a geometry that was read is spelled by it, under the same rule for rings and at any scale
+    // with the limits of any geometry, so that it is read again
     ensures again { (rings : Rings) (keyword : Keyword) (places : Option (List (List Position)))
-        → ReadsAs rings keyword places (Ok geometry.now)
+        → limits_of scale ≡ Limits.Any → ReadsAs rings keyword places (Ok geometry.now)
         → Reads scale rings (canonical scale geometry.now) (Ok geometry.now) }
 {
     let mut text = String::new(alloc);

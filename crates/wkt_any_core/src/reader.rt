@@ -60,7 +60,7 @@ fn read_raw(
 /// # Errors
 /// - [`GeometryFault::Text`] if the bytes aren't a text of this grammar.
 /// - [`GeometryFault::Number`] if some number has a digit other than 0 after the decimals of the
-///   scale and isn't rounded, or is more than [`geom_core::LIMIT`] units from 0, once rounded.
+///   scale and isn't rounded, or is beyond the limit of the scale, once rounded.
 /// - [`GeometryFault::Form`] if a polyline doesn't have two distinct vertices, or a ring's last
 ///   point isn't its first, or its points lie on one line. With [`Rings::EvenOdd`] a ring may lie
 ///   on one line; a ring whose points are all equal is ignored, and some other ring must remain.

@@ -6,8 +6,9 @@ use Rattle.std.specs.List.{AllByRecursion}
 use Rattle.std.proofs.lemmas.Int.{ints}
 use Rattle.std.proofs.lemmas.List.{append_assoc, append-nil}
 use Rattle.geom_core.specs.declared.shape.Shape.{Shape}
-use Rattle.geom_core.specs.Shapes.{x1, y1, x2, y2, IsCoordinate}
+use Rattle.geom_core.specs.Shapes.{x1, y1, x2, y2}
 use Rattle.number_core.specs.declared.scale.Scale.{Scale}
+use Rattle.number_core.specs.Scales.{limits_of, IsInRange}
 use Rattle.number_core.specs.CanonicalNumbers.{number}
 use Rattle.number_core.proofs.PrintedLemmas.{numeral, number_printed, value_printed, good_printed}
 use Rattle.wkt_core.specs.declared.keyword.Keyword.{Keyword}
@@ -17,14 +18,14 @@ use Rattle.wkt_core.specs.Canonical.{pair, listed, canonical}
 use Rattle.wkt_core.specs.Grammar.{RawPoint, Blanks, PointText, Listed, PointList, Body, Word, Raw}
 use Rattle.wkt_core.specs.Drawing.{corner, corners, Draws}
 use Rattle.wkt_core.specs.DrawnBefore.{DrewBefore}
-use Rattle.wkt_core.specs.Spelling.{HasGoodNumbers, position, Spells}
+use Rattle.wkt_core.specs.Spelling.{HasGoodNumbers, IsShapeWithin, position, Spells}
 use Rattle.wkt_core.proofs.DrawnLemmas.{drawn_still}
 
 module _ (scale : Scale) where
   -- ---- points
 
   abbrev pub InRange : Position → Type 0
-  InRange p = IsCoordinate p.x × IsCoordinate p.y
+  InRange p = IsInRange scale p.x × IsInRange scale p.y
 
   pub raw : Position → RawPoint
   raw p = record { x = numeral scale p.x; y = numeral scale p.y }
@@ -173,18 +174,18 @@ module _ (scale : Scale) where
     forms = subst (λ qs. Draws keyword qs s) (sym (positions_printed ps h)) (drawn_still keyword ps s f);
   }
 
-  module _ (s : Shape) where
-    low_x : IsCoordinate (x1 s)
-    low_x = (omega (arith, ints), omega (arith, ints))
+  module _ (s : Shape) (within : IsShapeWithin (limits_of scale) s) where
+    low_x : IsInRange scale (x1 s)
+    low_x = within.first_x
 
-    low_y : IsCoordinate (y1 s)
-    low_y = (omega (arith, ints), omega (arith, ints))
+    low_y : IsInRange scale (y1 s)
+    low_y = within.first_y
 
-    high_x : IsCoordinate (x2 s)
-    high_x = (omega (arith, ints), omega (arith, ints))
+    high_x : IsInRange scale (x2 s)
+    high_x = within.second_x
 
-    high_y : IsCoordinate (y2 s)
-    high_y = (omega (arith, ints), omega (arith, ints))
+    high_y : IsInRange scale (y2 s)
+    high_y = within.second_y
 
     point_spelled : x1 s ≡ x2 s → y1 s ≡ y2 s → Spells scale (codes "POINT (" ++ listed scale (corner (x1 s) (y1 s) ∷ []) ++ codes ")") s
     unfolding AllInRange

@@ -4,7 +4,7 @@ use Rattle.std.specs.List.{AllByRecursion}
 use Rattle.geom_core.specs.declared.shape.Shape.{Shape}
 use Rattle.number_core.specs.declared.scale.Rounding.TheVariants.{Exact}
 use Rattle.number_core.specs.declared.scale.Scale.{Scale}
-use Rattle.number_core.specs.Scales.{digits_of, rounding_of}
+use Rattle.number_core.specs.Scales.{digits_of, limits_of, rounding_of}
 use Rattle.number_core.specs.Numbers.{◌then◌}
 use Rattle.number_core.proofs.PlainLemmas.{IsPlain, number_still, number_plain, value_alike, good_alike}
 use Rattle.wkt_core.specs.declared.keyword.Keyword.{Keyword}
@@ -101,15 +101,15 @@ module _ (exact scale : Scale) (is : rounding_of exact ≡ Exact) where
 
   -- ---- values
 
-  module _ (digits : digits_of scale ≡ digits_of exact) where
+  module _ (digits : digits_of scale ≡ digits_of exact) (limits : limits_of scale ≡ limits_of exact) where
     points_alike : (ps : List RawPoint) → AllByRecursion ArePlain ps → AllByRecursion (HasGoodNumbers exact) ps
         → AllByRecursion (HasGoodNumbers scale) ps × (map (position scale) ps ≡ map (position exact) ps)
     points_alike [] plain good = (tt, refl)
     points_alike (p ∷ ps) plain good =
         let rest = points_alike ps plain.1 good.1 in
-        let x = value_alike exact scale is digits p.x plain.0.0 good.0.0 in
-        let y = value_alike exact scale is digits p.y plain.0.1 good.0.1 in (
-          ((good_alike exact scale is digits p.x plain.0.0 good.0.0, good_alike exact scale is digits p.y plain.0.1 good.0.1), rest.0),
+        let x = value_alike exact scale is digits limits p.x plain.0.0 good.0.0 in
+        let y = value_alike exact scale is digits limits p.y plain.0.1 good.0.1 in (
+          ((good_alike exact scale is digits limits p.x plain.0.0 good.0.0, good_alike exact scale is digits limits p.y plain.0.1 good.0.1), rest.0),
           ap₂ (λ (q : Position) (qs : List Position). q ∷ qs) (λ i. record { x = x i; y = y i }) rest.1,
         )
 
@@ -121,10 +121,10 @@ module _ (exact scale : Scale) (is : rounding_of exact ≡ Exact) where
         let rest = lists_alike lists plain.1 good.1 in
         ((first.0, rest.0), ap₂ (λ (qs : List Position) (others : List (List Position)). qs ∷ others) first.1 rest.1)
 
-pub spelled_alike : (exact scale : Scale) (text : List ℕ) (s : Shape) → rounding_of exact ≡ Exact → digits_of scale ≡ digits_of exact
+pub spelled_alike : (exact scale : Scale) (text : List ℕ) (s : Shape) → rounding_of exact ≡ Exact → digits_of scale ≡ digits_of exact → limits_of scale ≡ limits_of exact
     → Spells exact text s → Spells scale text s
-spelled_alike exact scale text s is digits h =
-    let alike = lists_alike exact scale is digits h.lists (raw_plain exact scale is text h.keyword h.lists h.raw) h.good in
+spelled_alike exact scale text s is digits limits h =
+    let alike = lists_alike exact scale is digits limits h.lists (raw_plain exact scale is text h.keyword h.lists h.raw) h.good in
     record {
       keyword = h.keyword;
       lists = h.lists;

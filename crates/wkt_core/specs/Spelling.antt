@@ -2,7 +2,10 @@
 use Rattle.std.specs.Prelude.{ℕ, List, [], ◌∷◌, map}
 use Rattle.std.specs.List.{AllByRecursion}
 use Rattle.geom_core.specs.declared.shape.Shape.{Shape}
+use Rattle.geom_core.specs.Shapes.{x1, y1, x2, y2}
+use Rattle.number_core.specs.declared.limits.Limits.{Limits}
 use Rattle.number_core.specs.declared.scale.Scale.{Scale}
+use Rattle.number_core.specs.ScaleLimits.{IsWithin}
 use Rattle.number_core.specs.Values.{value, IsGood}
 use Rattle.wkt_core.specs.declared.keyword.Keyword.{Keyword}
 use Rattle.wkt_core.specs.declared.position.Position.{Position}
@@ -33,6 +36,13 @@ pub record Spells (scale : Scale) (text : List ℕ) (s : Shape) : Type 0 where
   pub raw : Raw scale text keyword lists
   pub good : AllNumbersGood scale lists
   pub forms : Forms keyword (positions scale lists) s
+
+-- a shape whose coordinates are within these limits
+pub record IsShapeWithin (limits : Limits) (s : Shape) : Type 0 where
+  pub first_x : IsWithin limits (x1 s)
+  pub first_y : IsWithin limits (y1 s)
+  pub second_x : IsWithin limits (x2 s)
+  pub second_y : IsWithin limits (y2 s)
 
 -- the text isn't well formed
 abbrev pub HasNoRawForm : Scale → List ℕ → Type 0

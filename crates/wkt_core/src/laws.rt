@@ -9,7 +9,7 @@ ghost use Rattle.wkt_core.specs.Grammar.{RawPoint, Raw};
 ghost use Rattle.wkt_core.specs.Drawing.{Draws};
 ghost use Rattle.wkt_core.specs.DrawnBefore.{DrewBefore};
 ghost use Rattle.number_core.specs.declared.scale.Rounding.TheVariants.{Exact};
-ghost use Rattle.number_core.specs.Scales.{digits_of, rounding_of};
+ghost use Rattle.number_core.specs.Scales.{digits_of, limits_of, rounding_of};
 ghost use Rattle.wkt_core.specs.SpelledBefore.{SpelledBefore};
 ghost use Rattle.wkt_core.specs.Spelling.{Spells};
 
@@ -46,7 +46,9 @@ pub fn migration_law()
 /// A text that spells a shape at a scale without rounding spells it with rounding, too.
 pub fn rounding_law()
     // what a text spells at a scale without rounding it spells at one with it, of as many decimals
+    // and the same limits
     ensures spelled_alike { (exact scale : Scale) (text : List ℕ) (s : Shape)
         → rounding_of exact ≡ Exact → digits_of scale ≡ digits_of exact
+        → limits_of scale ≡ limits_of exact
         → Spells exact text s → Spells scale text s }
 {}

@@ -50,7 +50,7 @@ mod walk;
 pub use fault::WktFault;
 pub use keyword::Keyword;
 pub use laws::{migration_law, one_shape_law, rounding_law, widened_law};
-pub use number_core::{Rounding, Scale, nearest_law};
+pub use number_core::{Limits, Rounding, Scale, nearest_law};
 pub use position::{Position, ReadPoint, read_point};
 pub use printer::{print, push_point};
 pub use reader::read;

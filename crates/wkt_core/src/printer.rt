@@ -5,15 +5,16 @@ ghost use Rattle.std.specs.String.{string_bytes};
 ghost use Rattle.geom_core.specs.declared.shape.Shape.{Shape};
 ghost use Rattle.wkt_core.specs.Canonical.{pair, listed, canonical};
 ghost use Rattle.wkt_core.specs.Drawing.{corner};
-ghost use Rattle.wkt_core.specs.Spelling.{Spells};
+ghost use Rattle.number_core.specs.Scales.{limits_of};
+ghost use Rattle.wkt_core.specs.Spelling.{IsShapeWithin, Spells};
 
 use crate::position::Position;
 use geom_core::Shape;
 use number_core::{Scale, push_number};
 use std::alloc::{AllocError, Global};
 
-/// The greatest length in bytes of a text, a rectangle with ten numbers of at most fourteen bytes.
-const LONGEST: usize = 165;
+/// The greatest length in bytes of a text, a rectangle with ten numbers of at most twenty bytes.
+const LONGEST: usize = 225;
 
 /// Adds the two numbers of a point to a text, in units of a scale, with a space between them.
 ///
@@ -89,8 +90,9 @@ pub fn print(alloc: Global, shape: &Shape, scale: Scale) -> Result<String, Alloc
     // the canonical spelling at the scale
     ensures text { IfOk result (λ text. string_bytes text ≡ canonical scale shape.now) }
     // Reading the text gives the shape.
-    // which spells the shape
-    ensures spells { Spells scale (canonical scale shape.now) shape.now }
+    // which spells a shape within the limits of the scale
+    ensures spells { IsShapeWithin (limits_of scale) shape.now
+        → Spells scale (canonical scale shape.now) shape.now }
 {
     let mut text = String::with_capacity(alloc, LONGEST)?;
     push_shape(&mut text, shape, scale)?;

@@ -36,7 +36,7 @@ use number_core::Scale;
 /// - [`WktFault::Text`] if the bytes aren't a text of this grammar, in which a list may have any
 ///   number of points or lists of points.
 /// - [`WktFault::Number`] if some number has a digit other than 0 after the decimals of the scale
-///   and isn't rounded, or is more than [`geom_core::LIMIT`] units from 0, once rounded.
+///   and isn't rounded, or is beyond the limit of the scale, once rounded.
 /// - [`WktFault::Form`] if a `LINESTRING` doesn't have two or more distinct points that go straight
 ///   along an axis, or if a `POLYGON` isn't a single closed ring that goes once around a rectangle
 ///   of positive width and height: through its four corners and any points within its sides, in

@@ -10,7 +10,7 @@ use Rattle.pair_core.specs.declared.options.OptionFault.TheVariants as range
 use Rattle.relation_core.specs.Relations.{Spells}
 use Rattle.relation_core.specs.declared.relation.Relation.{Relation}
 use Rattle.number_core.specs.ScaleLimits.{most_digits}
-use Rattle.number_core.specs.Scales.{digits_of}
+use Rattle.number_core.specs.Scales.{digits_of, limits_of}
 use Rattle.number_core.specs.declared.scale.Scale.{Scale}
 use Rattle.words_core.specs.Readings.{HasDelimiterFault, missing_text, number_at, is_taken, share_input, shared_text, taken_text, text_in, workers_at, AllowsDisjointIn, AreOptionsIn, ArePathsIn, ForbidsDisjointIn, HasFormatFault, HasJoinFault, HasScaleFault, IsScaleIn}
 use Rattle.words_core.specs.Readings.{IsRangeFault, IsRelationFault, NeedsNoDisjoint, NeedsOptions, NeedsPaths, NeedsRelation, NeedsScale, Says}
@@ -77,10 +77,10 @@ scale_refused rows f Then h =
 
 -- a scale in range, and then a further fault
 pub scale_passed : (rows : List Row) (scale : Scale) (f : WordFault) (Then : Type 0)
-    → IsScaleIn rows scale → digits_of scale ≤ most_digits → Then → NeedsScale rows f Then
+    → IsScaleIn rows scale → digits_of scale ≤ most_digits (limits_of scale) → Then → NeedsScale rows f Then
 scale_passed rows scale f Then is few h =
     needs_some (codes "scale") (number_at (codes "scale") rows) (digits_of scale) f _ is.digits
-    (inr (few, h))
+    (inr ((limits_of scale, is.limits, few), h))
 
 -- ---- paths
 

@@ -22,7 +22,9 @@ use Rattle.relation_core.specs.declared.mask.MaskFault.{MaskFault}
 use Rattle.relation_core.specs.declared.mask.MaskFault.TheVariants as mask
 use Rattle.relation_core.specs.declared.relation.Relation.{Relation}
 use Rattle.number_core.specs.ScaleLimits.{most_digits}
-use Rattle.number_core.specs.Scales.{digits_of, rounding_of}
+use Rattle.number_core.specs.Scales.{digits_of, limits_of, rounding_of}
+use Rattle.number_core.specs.declared.limits.Limits.{Limits}
+use Rattle.number_core.specs.declared.limits.Limits.TheVariants as limits
 use Rattle.number_core.specs.declared.scale.Rounding.{Rounding}
 use Rattle.number_core.specs.declared.scale.Rounding.TheVariants as rounding
 use Rattle.number_core.specs.declared.scale.Scale.{Scale}
@@ -103,9 +105,15 @@ abbrev pub IsRoundingIn : List Row → Rounding → Type 0
 IsRoundingIn rows rounding.Nearest = first_of (codes "round") rows ≡ Some (codes "true")
 IsRoundingIn rows rounding.Exact = first_of (codes "round") rows ≢ Some (codes "true")
 
+-- any geometry's limits where `--geometry any` is given, and else those of boxes
+abbrev pub AreLimitsIn : List Row → Limits → Type 0
+AreLimitsIn rows limits.Any = first_of (codes "geometry") rows ≡ Some (codes "any")
+AreLimitsIn rows limits.Boxes = first_of (codes "geometry") rows ≢ Some (codes "any")
+
 pub record IsScaleIn (rows : List Row) (scale : Scale) : Type 0 where
   pub digits : number_at (codes "scale") rows ≡ Some (digits_of scale)
   pub rounding : IsRoundingIn rows (rounding_of scale)
+  pub limits : AreLimitsIn rows (limits_of scale)
 
 -- the word of `--rings`, if one is given, names this rule; proper rings need no word
 abbrev pub NamesRings : Option Text → Rings → Type 0
@@ -300,14 +308,27 @@ NeedsText name rows = Needs name (first_of name rows)
 abbrev pub NeedsNumber : Text → List Row → WordFault → (ℕ → Type 0) → Type 0
 NeedsNumber name rows = Needs name (number_at name rows)
 
+-- the fault of a number of decimals beyond these limits
+abbrev pub scale_fault : Limits → WordFault
+scale_fault limits.Boxes = fault.Scale
+scale_fault limits.Any = fault.ScaleOfAny
+
+-- a number of decimals that the limits allow, and one beyond them with its fault
+abbrev pub AreAllowed : List Row → ℕ → Type 0
+AreAllowed rows digits = (these : Limits) × AreLimitsIn rows these × (digits ≤ most_digits these)
+
+abbrev pub AreTooMany : List Row → ℕ → WordFault → Type 0
+AreTooMany rows digits f = (these : Limits) × AreLimitsIn rows these
+    × (most_digits these < digits) × (f ≡ scale_fault these)
+
 abbrev pub HasScaleFault : List Row → WordFault → Type 0
 HasScaleFault rows f =
-    NeedsNumber (codes "scale") rows f (λ digits. (most_digits < digits) × (f ≡ fault.Scale))
+    NeedsNumber (codes "scale") rows f (λ digits. AreTooMany rows digits f)
 
 -- a fault of the scale, or the consequence if it has none
 abbrev pub NeedsScale : List Row → WordFault → Type 0 → Type 0
 NeedsScale rows f Then = NeedsNumber (codes "scale") rows f (λ digits.
-    ((most_digits < digits) × (f ≡ fault.Scale)) ⊎ ((digits ≤ most_digits) × Then))
+    AreTooMany rows digits f ⊎ (AreAllowed rows digits × Then))
 
 abbrev pub IsNoRingRule : Option Text → Type 0
 IsNoRingRule None = ⊥
@@ -461,10 +482,15 @@ abbrev pub HasReportFault : List Row → WordFault → Type 0
 HasReportFault rows f =
     MatchOption (product_in rows) (Says mixed_text f) (λ _. HasJoinFault rows f)
 
+-- the fault of a distance beyond these limits
+abbrev pub distance_fault : Limits → WordFault
+distance_fault limits.Boxes = fault.Distance
+distance_fault limits.Any = fault.DistanceOfAny
+
 -- the word of the distance spells none at the scale
 abbrev pub HasDistanceFault : List Row → Scale → WordFault → Type 0
 HasDistanceFault rows scale f = NeedsText (codes "distance") rows f (λ word.
-    (f ≡ fault.Distance) × SpellsNoDistance scale word)
+    (f ≡ distance_fault (limits_of scale)) × SpellsNoDistance scale word)
 
 -- a fault of the distance, or else of the kind of geometries
 abbrev pub HasLastNearFault : List Row → Scale → WordFault → Type 0
@@ -483,7 +509,8 @@ IsNoReach (Some word) scale = SpellsNoDistance scale word
 -- the fault of the word of `--distance`, if one is given, or the consequence if it has none
 abbrev pub NeedsReach : List Row → Scale → WordFault → Type 0 → Type 0
 NeedsReach rows scale f Then =
-    (IsNoReach (first_of (codes "distance") rows) scale × (f ≡ fault.Distance))
+    (IsNoReach (first_of (codes "distance") rows) scale
+    × (f ≡ distance_fault (limits_of scale)))
     ⊎ (((within : Option Distance) × IsReachIn rows scale within) × Then)
 
 -- a fault of the distance, or else that no features are sought

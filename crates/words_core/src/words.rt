@@ -134,12 +134,18 @@ pub enum WordFault {
     /// A number is out of its range.
     #[error(transparent)]
     Options(OptionFault),
-    /// The number of decimals is greater than a coordinate can have.
+    /// The number of decimals is greater than a coordinate of a box can have.
     #[error("--scale must be 0 to 6")]
     Scale,
-    /// The distance is no number of the scale, or out of range.
+    /// The number of decimals is greater than a coordinate of any geometry can have.
+    #[error("--scale must be 0 to 15")]
+    ScaleOfAny,
+    /// The distance of boxes is no number of the scale, or out of range.
     #[error("--distance must be a number of the scale, 0 to 4000000000000 units")]
     Distance,
+    /// The distance of any geometry is no number of the scale, or out of range.
+    #[error("--distance must be a number of the scale, 0 to 4000000000000000000 units")]
+    DistanceOfAny,
     /// The number of nearest features is 0.
     #[error("--most must be 1 to 4294967295")]
     Most,
@@ -203,9 +209,10 @@ pub fn read_words<'a>(alloc: Global, words: &'a [&'a str]) -> Result<Command<'a>
     // in the order options of a join that exclude each other, arguments, two files at `-`, a list
     // of skipped rows at `-` or at the path of another file of the command, `--delimiter`,
     // relation, whether it holds for disjoint geometries of the kind that the words name, the three
-    // numbers, scale, `--distance`, `--most`, `--geometry`, `--rings`. A distance is the value of
-    // its whole word by the grammar of numbers at the scale; a word that spells none is a fault. No
-    // other comes but out of memory
+    // numbers, scale, `--distance`, `--most`, `--geometry`, `--rings`. The scale has the limits of
+    // any geometry where `--geometry any` is given, and else those of boxes. A distance is the
+    // value of its whole word by the grammar of numbers at the scale; a word that spells none is a
+    // fault. No other comes but out of memory
     ensures { ReadAs (map (λ word. word.now) words.now) result }
 {
     let program = usage_of(alloc, words)?;

@@ -247,7 +247,7 @@ const ROUND: Argument = Argument::Flag {
 /// The number of decimals of all coordinates.
 const SCALE: Argument = Argument::Number {
     name: "scale",
-    help: "Decimals that a coordinate may have, 0 to 6",
+    help: "Decimals of a coordinate, 0 to 6; any geometry 0 to 15",
     default: "0",
 };
 

@@ -1,11 +1,25 @@
 //! The distance that a word spells.
 
-ghost use Rattle.std.specs.Prelude.{IfSome, IfNone};
+ghost use Rattle.std.specs.Prelude.{◌≡◌, ◌≤◌, nat_abs, IfSome, IfNone};
+ghost use Rattle.number_core.specs.ScaleLimits.{greatest_apart};
+ghost use Rattle.number_core.specs.Scales.{limits_of};
 ghost use Rattle.words_core.specs.Distances.{SpellsDistance, SpellsNoDistance};
 ghost use Rattle.words_core.specs.Distances.{SpellsNoNumber, SpellsNumber};
+ghost use Rattle.words_core.specs.Readings.{distance_fault};
 
-use distance_core::{Distance, MAX_DISTANCE};
-use number_core::{Scale, read_number_to};
+use crate::words::WordFault;
+use distance_core::Distance;
+use number_core::{Limits, Scale, read_number_to};
+
+/// The fault of a distance beyond these limits.
+pub fn distance_fault(limits: Limits) -> WordFault
+    ensures { result ≡ distance_fault limits }
+{
+    match limits {
+        Limits::Boxes => WordFault::Distance,
+        Limits::Any => WordFault::DistanceOfAny,
+    }
+}
 
 /// The distance that a text spells, in units of the scale, or `None` if it spells none.
 pub fn distance_of(text: &[u8], scale: Scale) -> Option<Distance>
@@ -20,12 +34,13 @@ pub fn distance_of(text: &[u8], scale: Scale) -> Option<Distance>
 }
 
 /// The number that the whole text spells, in units of the scale, or `None` if it spells none that
-/// is whole and from -d to d, where d is the greatest distance.
+/// is whole and from -d to d, where d is the greatest distance of the limits.
 fn lone_number(text: &[u8], scale: Scale) -> Option<i64>
     ensures some { IfSome result (SpellsNumber scale text.now) }
+    ensures few { IfSome result (λ z. nat_abs z ≤ greatest_apart (limits_of scale)) }
     ensures none { IfNone result (SpellsNoNumber scale text.now) }
 {
-    let (number, rest) = read_number_to(text, scale, MAX_DISTANCE)?;
+    let (number, rest) = read_number_to(text, scale, scale.limits().distance())?;
     if number.whole && rest.is_empty() {
         number.value
     } else {

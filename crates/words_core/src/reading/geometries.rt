@@ -1,9 +1,10 @@
 //! Reading how geometries are written: scale and rounding, their kind, and the rule for rings.
 
-ghost use Rattle.std.specs.Prelude.{◌≢◌, ◌≤◌, IfOk, IfErr, IfSome, IfNone};
+ghost use Rattle.std.specs.Prelude.{◌≡◌, ◌≢◌, ◌≤◌, IfOk, IfErr, IfSome, IfNone};
 ghost use Rattle.number_core.specs.ScaleLimits.{most_digits};
-ghost use Rattle.number_core.specs.Scales.{digits_of};
-ghost use Rattle.words_core.specs.Readings.{AreGeometriesIn, HasGeometryFault, HasScaleFault};
+ghost use Rattle.number_core.specs.Scales.{digits_of, limits_of};
+ghost use Rattle.words_core.specs.Readings.{AreGeometriesIn, AreLimitsIn, HasGeometryFault};
+ghost use Rattle.words_core.specs.Readings.{HasScaleFault, scale_fault};
 ghost use Rattle.words_core.specs.Readings.{IsNoRingRule, IsRoundingIn, IsScaleIn, NamesNoKind};
 ghost use Rattle.words_core.specs.Readings.{NamesRings};
 ghost use Rattle.words_core.specs.Readings.{found_in, text_in};
@@ -12,7 +13,7 @@ use super::arguments::{missing, number, optional};
 use crate::condition::Geometries;
 use crate::words::WordFault;
 use clap::ArgMatches;
-use number_core::{Rounding, Scale};
+use number_core::{Limits, Rounding, Scale};
 use plane_core::Rings;
 use std::alloc::Global;
 
@@ -26,14 +27,36 @@ fn read_rounding(given: &ArgMatches<'_>) -> Rounding
     }
 }
 
+/// Whose limits numbers have.
+fn read_limits(given: &ArgMatches<'_>) -> Limits
+    ensures { AreLimitsIn (found_in given.now) result }
+{
+    match optional(given, "geometry") {
+        Some("any") => Limits::Any,
+        _ => Limits::Boxes,
+    }
+}
+
+/// The fault of a number of decimals beyond these limits.
+fn scale_fault(limits: Limits) -> WordFault
+    ensures { result ≡ scale_fault limits }
+{
+    match limits {
+        Limits::Boxes => WordFault::Scale,
+        Limits::Any => WordFault::ScaleOfAny,
+    }
+}
+
 pub fn read_scale(alloc: Global, given: &ArgMatches<'_>) -> Result<Scale, WordFault>
     ensures ok { IfOk result (IsScaleIn (found_in given.now)) }
-    ensures few { IfOk result (λ scale. digits_of scale ≤ most_digits) }
+    ensures few { IfOk result (λ scale. digits_of scale ≤ most_digits (limits_of scale)) }
     ensures err { IfErr result (λ f. f ≢ WordFault.Memory → HasScaleFault (found_in given.now) f) }
 {
-    match Scale::new(number(alloc, given, "scale")?) {
+    let digits = number(alloc, given, "scale")?;
+    let limits = read_limits(given);
+    match Scale::within(limits, digits) {
         Some(scale) => Ok(scale.with_rounding(read_rounding(given))),
-        None => Err(WordFault::Scale),
+        None => Err(scale_fault(limits)),
     }
 }
 

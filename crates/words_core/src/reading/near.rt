@@ -5,7 +5,7 @@ ghost use Rattle.words_core.specs.Readings.{HasDistanceFault, HasNearFault, IsCo
 ghost use Rattle.words_core.specs.Readings.{IsDistanceIn, IsNearnessIn, found_in};
 
 use super::arguments::{optional, required};
-use super::distance::distance_of;
+use super::distance::{distance_fault, distance_of};
 use super::geometries::{read_geometries, read_scale};
 use super::options::read_options;
 use super::paths::read_paths;
@@ -46,7 +46,7 @@ fn read_distance(alloc: Global, given: &ArgMatches<'_>, scale: Scale) -> Result<
     let word = required(alloc, given, "distance")?;
     match distance_of(word.as_bytes(), scale) {
         Some(distance) => Ok(distance),
-        None => Err(WordFault::Distance),
+        None => Err(distance_fault(scale.limits())),
     }
 }
 

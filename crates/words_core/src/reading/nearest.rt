@@ -4,10 +4,12 @@ ghost use Rattle.std.specs.Prelude.{◌≡◌, ◌≢◌, codes, IfOk, IfErr};
 ghost use Rattle.clap.specs.Words.{first_of};
 ghost use Rattle.distance_core.specs.Queries.{most_of, within_of};
 ghost use Rattle.words_core.specs.Readings.{HasNearestFault, HasQueryFault, IsCommandIn};
-ghost use Rattle.words_core.specs.Readings.{IsNoReach, IsReachIn, found_in, number_at};
+ghost use Rattle.number_core.specs.Scales.{limits_of};
+ghost use Rattle.words_core.specs.Readings.{IsNoReach, IsReachIn, distance_fault, found_in};
+ghost use Rattle.words_core.specs.Readings.{number_at};
 
 use super::arguments::{number, optional};
-use super::distance::distance_of;
+use super::distance::{distance_fault, distance_of};
 use super::geometries::{read_geometries, read_scale};
 use super::options::read_options;
 use super::paths::read_paths;
@@ -61,13 +63,13 @@ fn read_reach(given: &ArgMatches<'_>, scale: Scale) -> Result<Option<Distance>, 
     ensures ok { IfOk result (IsReachIn (found_in given.now) scale) }
     ensures none { IfErr result (λ _.
         IsNoReach (first_of (codes "distance") (found_in given.now)) scale) }
-    ensures fault { IfErr result (λ f. f ≡ WordFault.Distance) }
+    ensures fault { IfErr result (λ f. f ≡ distance_fault (limits_of scale)) }
 {
     let Some(word) = optional(given, "distance") else {
         return Ok(None);
     };
     match distance_of(word.as_bytes(), scale) {
         Some(distance) => Ok(Some(distance)),
-        None => Err(WordFault::Distance),
+        None => Err(distance_fault(scale.limits())),
     }
 }

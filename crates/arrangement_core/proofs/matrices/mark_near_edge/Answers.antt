@@ -25,7 +25,7 @@ mark_noded-marked-requires-clause-cuts c =
     let found = All-append (IsFound e _) a.edges.items b.edges.items near.found (all_found_kept e _ _ b.edges.items near.kept c.requires.near.found) in
     cuts_at _ _ _ _ _ _ c.as_slice-nodes.result.now c.requires.one
     (nodes_along e (outline_edges a b) c.args.points.now _ _ c.in_ok-find_along.ensures
-    (near_nodes e (outline_edges a b) _ _ _ found (rw (c.as_slice-near.ensures.value, c.as_slice-along.ensures.value) at c.in_ok-gather_nodes.ensures))) c.as_slice-nodes.ensures.value
+    (near_nodes e (outline_edges a b) _ _ _ found (rw (c.as_slice-near.ensures.value, c.as_slice-along.ensures.value) at c.in_ok-gather_nodes.ensures.nodes))) c.as_slice-nodes.ensures.value
 
 pub returns-clause-marked : goal.returns-clause-marked
 returns-clause-marked c =
@@ -36,9 +36,12 @@ returns-clause-marked c =
     let found = All-append (IsFound e _) a.edges.items b.edges.items near.found (all_found_kept e _ _ b.edges.items near.kept c.requires.near.found) in
     edge_marked _ _ _ _ _ _ c.as_slice-nodes.result.now _ _
     (nodes_along e (outline_edges a b) c.args.points.now _ _ c.in_ok-find_along.ensures
-    (near_nodes e (outline_edges a b) _ _ _ found (rw (c.as_slice-near.ensures.value, c.as_slice-along.ensures.value) at c.in_ok-gather_nodes.ensures))) c.as_slice-nodes.ensures.value c.mark_noded-marked.ensures
+    (near_nodes e (outline_edges a b) _ _ _ found (rw (c.as_slice-near.ensures.value, c.as_slice-along.ensures.value) at c.in_ok-gather_nodes.ensures.nodes))) c.as_slice-nodes.ensures.value c.mark_noded-marked.ensures
 
 pub mark_noded-marked-requires-clause-near : goal.mark_noded-marked-requires-clause-near
 mark_noded-marked-requires-clause-near c =
     first_near c.args.pair.now.second.now c.args.course.now.edge _ _ _ c.in_ok-push_near.ensures.kept
     (rw (c.as_slice-near.ensures.value, c.as_slice-others.ensures.value) at c.split_at.ensures.front) c.requires.near
+
+pub mark_noded-marked-requires-clause-on : goal.mark_noded-marked-requires-clause-on
+mark_noded-marked-requires-clause-on c = rw c.as_slice-nodes.ensures.value c.in_ok-gather_nodes.ensures.on

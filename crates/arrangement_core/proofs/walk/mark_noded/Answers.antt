@@ -2,10 +2,11 @@ use Rattle.std.proofs.Common.{rules, ◌≡◌, ◌+◌, ◌-◌, ℕ, arith, re
 use Rattle.std.specs.Prelude.{IfSome}
 use Rattle.plane_core.specs.declared.node.Node.{Node}
 use Rattle.plane_core.specs.Places.{node_point}
+use Rattle.noding_core.specs.Gathered.{IsOn}
 use Rattle.noding_core.proofs.GrowthLemmas.{grown_first, grown_next, grown_nodes}
 use Rattle.shown_core.proofs.ShownLemmas.{node_on}
 use Rattle.arrangement_core.specs.Crossed.{LiesAfter}
-use Rattle.arrangement_core.proofs.WalkLemmas.{some_nodes, first_among, same_item, last_here, next_at}
+use Rattle.arrangement_core.proofs.WalkLemmas.{all_item, some_nodes, first_among, same_item, last_here, next_at}
 use Rattle.arrangement_core.proofs.walk.mark_noded.Goals as goal
 
 more_less : (i : ℕ) → (i + 1) - 1 ≡ i
@@ -64,3 +65,9 @@ loop-i-preserved c =
 pub returns : goal.returns
 returns c =
     grown_nodes c.args.pair.now.first.now c.args.pair.now.second.now c.args.course.now.edge c.args.nodes.now c.loop-i.i _ _ (search rules) c.loop-i.invariant.grown
+
+pub step-walk-requires-clause-first : goal.step-walk-requires-clause-first
+step-walk-requires-clause-first c = all_item (IsOn c.args.course.now.edge) c.args.nodes.now (c.loop-i.i - 1) c.node_at-k.result c.requires.on (search rules) c.node_at-k.ensures
+
+pub step-walk-requires-clause-second : goal.step-walk-requires-clause-second
+step-walk-requires-clause-second c = all_item (IsOn c.args.course.now.edge) c.args.nodes.now c.loop-i.i c.node_at-l.result c.requires.on c.loop-i-test.true c.node_at-l.ensures

@@ -1,4 +1,4 @@
-use Rattle.std.proofs.Common.{rules, ◌≡◌, true, false}
+use Rattle.std.proofs.Common.{rules, ◌≡◌, true, false, sym, ◌∙◌}
 use Rattle.std.specs.Ordering.{is_lt}
 use Rattle.plane_core.specs.Places.{node_point, point_of, place_order}
 use Rattle.noding_core.proofs.NodeLemmas.{gap_second}
@@ -60,3 +60,9 @@ returns-else-is_lt-clause-grown c =
     let q = node_point c.args.l.now in
     let not_less : is_lt (place_order p q) ≡ false = search rules in
     same_grown a b e c.args.k.now c.args.l.now c.args.walk.matrix not_less (same_next a b e p q c.requires.next not_less) c.requires.here
+
+pub compare-requires : goal.compare-requires
+compare-requires c = c.requires.first ∙ sym c.requires.second
+
+pub middle-requires : goal.middle-requires
+middle-requires c = c.requires.first ∙ sym c.requires.second

@@ -8,6 +8,6 @@ pub returns : goal.returns
 returns c =
     let x : to_z w64 (of_z w64 c.in_ok-x.x) ≡ c.in_ok-x.x = search (rules, to_z-of_z) in
     let y : to_z w64 (of_z w64 c.in_ok-y.y) ≡ c.in_ok-y.y = search (rules, to_z-of_z) in
-    vertex_position c.args.scale c.args.x c.args.y (to_z w64 (of_z w64 c.in_ok-x.x)) (to_z w64 (of_z w64 c.in_ok-y.y)) c.new.result
+    vertex_position c.args.scale c.args.x c.args.y (to_z w64 (of_z w64 c.in_ok-x.x)) (to_z w64 (of_z w64 c.in_ok-y.y)) c.vertex_within.result
     (subst (IsUnits c.args.scale c.args.x) (sym x) c.in_ok-x.ensures.some) (subst (IsUnits c.args.scale c.args.y) (sym y) c.in_ok-y.ensures.some)
-    c.new.ensures.some c.new.ensures.x c.new.ensures.y
+    c.vertex_within.ensures.some c.vertex_within.ensures.x c.vertex_within.ensures.y

@@ -1,4 +1,5 @@
 use Rattle.std.proofs.Common.{sym, ◌∙◌}
+use Rattle.plane_core.specs.Meetings.{divided}
 use Rattle.plane_core.proofs.CrossingLemmas.{down_part, down_positive, down_meeting, up_part, up_positive, up_meeting}
 use Rattle.plane_core.proofs.CrossingLemmas.{true_lt, false_lt}
 use Rattle.plane_core.proofs.node.Node.crossing.Goals as goal
@@ -41,16 +42,18 @@ along-requires-else-is_low-clause-positive c =
     let t = c.turn_to-turn in
     up_positive c.args.e.now c.args.f.now t.result c.requires t.ensures.value t.ensures.bound (false_lt _ (sym c.is_low.ensures ∙ c.if-is_low.false))
 
-pub returns-then-is_low : goal.returns-then-is_low
-returns-then-is_low c =
+pub returns-then-is_low-clause-meeting : goal.returns-then-is_low-clause-meeting
+returns-then-is_low-clause-meeting c =
     let s = c.side_of-side in
     let t = c.turn_to-turn in
     down_meeting c.args.e.now c.args.f.now s.result t.result _ c.requires s.ensures.value t.ensures.value
-    s.ensures.bound t.ensures.bound (true_lt _ (sym c.is_low.ensures ∙ c.if-is_low.true)) c.along.ensures
+    s.ensures.bound t.ensures.bound (true_lt _ (sym c.is_low.ensures ∙ c.if-is_low.true))
+    (λ i. divided (c.along.ensures.edge i) (c.along.ensures.n i) (c.along.ensures.w i))
 
-pub returns-else-is_low : goal.returns-else-is_low
-returns-else-is_low c =
+pub returns-else-is_low-clause-meeting : goal.returns-else-is_low-clause-meeting
+returns-else-is_low-clause-meeting c =
     let s = c.side_of-side in
     let t = c.turn_to-turn in
     up_meeting c.args.e.now c.args.f.now s.result t.result _ c.requires s.ensures.value t.ensures.value
-    s.ensures.bound t.ensures.bound (false_lt _ (sym c.is_low.ensures ∙ c.if-is_low.false)) c.along-else-is_low.ensures
+    s.ensures.bound t.ensures.bound (false_lt _ (sym c.is_low.ensures ∙ c.if-is_low.false))
+    (λ i. divided (c.along-else-is_low.ensures.edge i) (c.along-else-is_low.ensures.n i) (c.along-else-is_low.ensures.w i))
