@@ -87,7 +87,7 @@ fn read_window(alloc: Global, format: AnyFormat, wkt: &[u8]) -> Result<AnyGeomet
     match format.read(alloc, wkt)? {
         Ok(geometry) => Ok(geometry),
         Err(TextFault::Geometry(fault)) => Err(RunFault::Geometry(Input::Window, fault)),
-        Err(TextFault::Wkt(fault)) => Err(RunFault::Wkt(Input::Window, fault)),
+        Err(TextFault::Wkt(fault, _)) => Err(RunFault::Wkt(Input::Window, fault)),
     }
 }
 

@@ -11,7 +11,8 @@ use Rattle.format_core.specs.Layouts.{delimiter_byte}
 use Rattle.row_core.specs.declared.header.Places.{Places}
 use Rattle.row_core.specs.declared.rows.Rows.{Rows}
 use Rattle.row_core.specs.declared.read_fault.ReadFault.{ReadFault}
-use Rattle.row_core.specs.declared.read_fault.ReadFault.TheVariants.{Io, TooLong, Header, Memory}
+use Rattle.row_core.specs.declared.read_fault.ReadFault.TheVariants.{Io, TooLong, Memory}
+use Rattle.row_core.specs.Beginnings.{IsHeaderFault}
 use Rattle.row_core.specs.Limits.{most_file_bytes}
 use Rattle.row_core.specs.Records.{Record, records_of}
 use Rattle.row_core.specs.Rows.{AreBehindHeader, AreRows, FileGives, HasNoFirst, IsHeader, last_row, rows_left}
@@ -25,8 +26,8 @@ module _ (columns : List (List ℕ)) (bytes : List ℕ) (few : length bytes ≤ 
   rows-headed header rows records headed = rw (le-ltb most_file_bytes (length bytes) few, records) (inl (headed, refl))
 
   pub rows-unheaded : (header : Record) (rows : List Record) → records_of Comma bytes ≡ header ∷ rows → ¬ (IsHeader columns header)
-      → AreRows columns bytes (Err Header)
-  rows-unheaded header rows records unheaded = rw (le-ltb most_file_bytes (length bytes) few, records) (inr (unheaded, refl))
+      → (fault : ReadFault) → IsHeaderFault bytes fault → AreRows columns bytes (Err fault)
+  rows-unheaded header rows records unheaded fault says = rw (le-ltb most_file_bytes (length bytes) few, records) (inr (unheaded, says))
 
 -- a file without a first record
 pub rows-headless : (columns : List (List ℕ)) (bytes : List ℕ) (fault : ReadFault) → HasNoFirst Comma bytes fault → AreRows columns bytes (Err fault)
@@ -35,10 +36,10 @@ rows-headless columns bytes fault none = by (nat_lt most_file_bytes (length byte
     none_are : Result (List Record) ReadFault
     none_are = Err fault
 
-    by : (t : Bool) → MatchBool t (fault ≡ TooLong) ((records_of Comma bytes ≡ []) × (fault ≡ Header))
-        → MatchBool t (none_are ≡ Err TooLong) (AreBehindHeader columns (records_of Comma bytes) none_are)
+    by : (t : Bool) → MatchBool t (fault ≡ TooLong) ((records_of Comma bytes ≡ []) × IsHeaderFault bytes fault)
+        → MatchBool t (none_are ≡ Err TooLong) (AreBehindHeader columns bytes (records_of Comma bytes) none_are)
     by true is = ap Err is
-    by false (empty, is) = rw empty (ap Err is)
+    by false (empty, says) = rw empty says
 
 pub table-headless : (layout : Layout) (bytes : List ℕ) (fault : ReadFault) → HasNoFirst layout.delimiter bytes fault → IsTable layout bytes (Err fault)
 table-headless layout bytes fault none = by (nat_lt most_file_bytes (length bytes)) none
@@ -46,10 +47,10 @@ table-headless layout bytes fault none = by (nat_lt most_file_bytes (length byte
     no_table : Result Table ReadFault
     no_table = Err fault
 
-    by : (t : Bool) → MatchBool t (fault ≡ TooLong) ((records_of layout.delimiter bytes ≡ []) × (fault ≡ Header))
-        → MatchBool t (no_table ≡ Err TooLong) (IsTableBehind layout.columns (records_of layout.delimiter bytes) no_table)
+    by : (t : Bool) → MatchBool t (fault ≡ TooLong) ((records_of layout.delimiter bytes ≡ []) × IsHeaderFault bytes fault)
+        → MatchBool t (no_table ≡ Err TooLong) (IsTableBehind layout.columns bytes (records_of layout.delimiter bytes) no_table)
     by true is = ap Err is
-    by false (empty, is) = rw empty (ap Err is)
+    by false (empty, says) = rw empty says
 
 -- the rows after a header with the columns of a layout, and those of a file with another header
 module _ (layout : Layout) (bytes : List ℕ) (header : Record) (rows : List Record) (few : length bytes ≤ most_file_bytes)
@@ -57,8 +58,9 @@ module _ (layout : Layout) (bytes : List ℕ) (header : Record) (rows : List Rec
   pub table-placed : (places : Places) → ArePlaces layout.columns header places → IsTable layout bytes (Ok (record { places = places; rows = rows }))
   table-placed places placed = rw (le-ltb most_file_bytes (length bytes) few, records) (inl (places, placed, refl))
 
-  pub table-unplaced : ((places : Places) → ¬ (ArePlaces layout.columns header places)) → IsTable layout bytes (Err Header)
-  table-unplaced none = rw (le-ltb most_file_bytes (length bytes) few, records) (inr (none, refl))
+  pub table-unplaced : ((places : Places) → ¬ (ArePlaces layout.columns header places)) → (fault : ReadFault) → IsHeaderFault bytes fault
+      → IsTable layout bytes (Err fault)
+  table-unplaced none fault says = rw (le-ltb most_file_bytes (length bytes) few, records) (inr (none, says))
 
 pub table-opened : (layout : Layout) (bytes : List ℕ) (rows : Rows) (places : Places) → IsOpenedTable layout bytes rows places
     → IsTable layout bytes (Ok (record { places = places; rows = rows_left rows }))

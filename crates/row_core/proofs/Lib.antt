@@ -4,3 +4,4 @@ pub mod FieldLemmas
 pub mod HeaderLemmas
 pub mod FileLemmas
 pub mod EndLemmas
+pub mod FirstLineLemmas

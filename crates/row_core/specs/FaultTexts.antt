@@ -11,21 +11,21 @@ use Rattle.row_core.specs.declared.read_fault.ReadFault.TheVariants.{Memory}
 -- the number of the row at fault, if there is one
 abbrev pub row_of : ReadFault → Option ℕ
 row_of (Row n) = Some n
-row_of (Wkt n fault) = Some n
+row_of (Wkt n fault any) = Some n
 row_of (Geometry n fault) = Some n
 row_of (Layer n fault) = Some n
 row_of Io = None
 row_of TooLong = None
-row_of Header = None
+row_of (Header beginning) = None
 row_of Memory = None
 
 -- the text of the fault, without its row
 abbrev pub cause_text : ReadFault → List ℕ
 cause_text Io = codes "read failed"
 cause_text TooLong = codes "file is too long"
-cause_text Header = codes "wrong header"
+cause_text (Header beginning) = codes "wrong header"
 cause_text (Row n) = codes "wrong fields"
-cause_text (Wkt n fault) = wkt_text fault
+cause_text (Wkt n fault any) = wkt_text fault
 cause_text (Geometry n fault) = geometry_text fault
 cause_text (Layer n fault) = layer_text fault
 cause_text Memory = codes "no memory"

@@ -1,6 +1,8 @@
+pub mod Beginnings
 pub mod Cuts
 pub mod FaultTexts
 pub mod Fields
+pub mod FirstLines
 pub mod LayerRows
 pub mod Limits
 pub mod Records

@@ -12,7 +12,7 @@ use Rattle.row_core.specs.declared.read_fault.ReadFault.TheVariants.{Wkt, Geomet
 
 -- the fault of the row with this number, whose geometry has this fault
 abbrev pub fault_of_text : ℕ → TextFault → ReadFault
-fault_of_text n (text.Wkt fault) = Wkt n fault
+fault_of_text n (text.Wkt fault any) = Wkt n fault any
 fault_of_text n (text.Geometry fault) = Geometry n fault
 
 -- the text has a fault, which is this fault of the row with this number

@@ -1,14 +1,15 @@
 -- The rows of a CSV file: their joint result, and reading them in order.
 use Rattle.std.specs.Prelude.{◌≡◌, ◌≤◌, ◌+◌, ◌⊎◌, ℕ, Bool, false, List, [], ◌∷◌, length, map}
-use Rattle.std.specs.Prelude.{nat_lt, Result, Ok, Err, MatchResult}
+use Rattle.std.specs.Prelude.{nat_lt, Result, Ok, Err, IsErrAnd, MatchResult}
 use Rattle.std.specs.Bool.{MatchBool}
 use Rattle.std.specs.Char.{to_ascii_lowercase}
 use Rattle.csv.specs.Records.{fields_of}
 use Rattle.format_core.specs.declared.layout.Delimiter.{Delimiter}
 use Rattle.format_core.specs.declared.layout.Delimiter.TheVariants.{Comma}
 use Rattle.row_core.specs.declared.read_fault.ReadFault.{ReadFault}
-use Rattle.row_core.specs.declared.read_fault.ReadFault.TheVariants.{TooLong, Header}
+use Rattle.row_core.specs.declared.read_fault.ReadFault.TheVariants.{TooLong}
 use Rattle.row_core.specs.declared.rows.Rows.{Rows}
+use Rattle.row_core.specs.Beginnings.{IsHeaderFault}
 use Rattle.row_core.specs.Cuts.{IsClosed}
 use Rattle.row_core.specs.Limits.{most_file_bytes}
 use Rattle.row_core.specs.Records.{Record, records_of, records_left, IsBetweenRecords}
@@ -20,19 +21,20 @@ lowercase fields = map (map to_ascii_lowercase) fields
 abbrev pub IsHeader : List (List ℕ) → Record → Type 0
 IsHeader columns header = lowercase header ≡ lowercase columns
 
--- the records after a header with these columns, or why there are none
-abbrev pub AreBehindHeader : List (List ℕ) → List Record → Result (List Record) ReadFault → Type 0
-AreBehindHeader columns [] rows = rows ≡ Err Header
-AreBehindHeader columns (header ∷ others) rows =
+-- the records of a file of these bytes after a header with these columns, or why there are none
+abbrev pub AreBehindHeader : List (List ℕ) → List ℕ → List Record → Result (List Record) ReadFault
+    → Type 0
+AreBehindHeader columns bytes [] rows = IsErrAnd rows (IsHeaderFault bytes)
+AreBehindHeader columns bytes (header ∷ others) rows =
     (IsHeader columns header × (rows ≡ Ok others))
-    ⊎ (¬ (IsHeader columns header) × (rows ≡ Err Header))
+    ⊎ (¬ (IsHeader columns header) × IsErrAnd rows (IsHeaderFault bytes))
 
 -- the rows of a file with these columns and a permitted number of bytes, or why there are none
 abbrev pub AreRows : List (List ℕ) → List ℕ → Result (List Record) ReadFault → Type 0
 AreRows columns bytes rows =
     MatchBool (nat_lt most_file_bytes (length bytes))
     (rows ≡ Err TooLong)
-    (AreBehindHeader columns (records_of Comma bytes) rows)
+    (AreBehindHeader columns bytes (records_of Comma bytes) rows)
 
 -- the result of the rows in order, starting with this number, each applied to the result of those
 -- before it: that of all of them, or the fault of the first that has one
@@ -91,7 +93,7 @@ abbrev pub HasNoFirst : Delimiter → List ℕ → ReadFault → Type 0
 HasNoFirst delimiter bytes fault =
     MatchBool (nat_lt most_file_bytes (length bytes))
     (fault ≡ TooLong)
-    ((records_of delimiter bytes ≡ []) × (fault ≡ Header))
+    ((records_of delimiter bytes ≡ []) × IsHeaderFault bytes fault)
 
 -- the rows of a file with these columns, before any was read
 pub record IsOpened (columns : List (List ℕ)) (bytes : List ℕ) (rows : Rows) : Type 0 where

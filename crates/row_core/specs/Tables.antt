@@ -1,6 +1,6 @@
 -- The rows of a layer's file, and the places at which its header has the columns that are read.
-use Rattle.std.specs.Prelude.{◌≡◌, ◌≤◌, ◌<◌, ◌+◌, ◌⊎◌, ℕ, List, [], ◌∷◌, length, map, get_or, codes}
-use Rattle.std.specs.Prelude.{nat_lt, Option, Some, None, Result, Ok, Err, MatchResult}
+use Rattle.std.specs.Prelude.{◌≡◌, ◌≤◌, ◌<◌, ◌⊎◌, ℕ, List, [], ◌∷◌, length, map, get_or, codes}
+use Rattle.std.specs.Prelude.{nat_lt, Option, Some, None, Result, Ok, Err, IsErrAnd, MatchResult}
 use Rattle.std.specs.Bool.{MatchBool}
 use Rattle.std.specs.Borrow.{Bor}
 use Rattle.std.specs.Char.{to_ascii_lowercase}
@@ -9,8 +9,9 @@ use Rattle.format_core.specs.declared.layout.Columns.TheVariants.{Exact, Named}
 use Rattle.format_core.specs.declared.layout.Layout.{Layout}
 use Rattle.row_core.specs.declared.header.Places.{Places}
 use Rattle.row_core.specs.declared.read_fault.ReadFault.{ReadFault}
-use Rattle.row_core.specs.declared.read_fault.ReadFault.TheVariants.{TooLong, Header}
+use Rattle.row_core.specs.declared.read_fault.ReadFault.TheVariants.{TooLong}
 use Rattle.row_core.specs.declared.rows.Rows.{Rows}
+use Rattle.row_core.specs.Beginnings.{IsHeaderFault}
 use Rattle.row_core.specs.Limits.{most_file_bytes}
 use Rattle.row_core.specs.Records.{Record, records_of}
 use Rattle.row_core.specs.Rows.{IsBehindFirst, IsHeader, RowsGive, last_row}
@@ -68,20 +69,21 @@ pub record Table : Type 0 where
   pub places : Places
   pub rows : List Record
 
--- the rows behind a header with these columns, or why there are none
-abbrev pub IsTableBehind : Columns → List Record → Result Table ReadFault → Type 0
-IsTableBehind columns [] table = table ≡ Err Header
-IsTableBehind columns (header ∷ others) table =
+-- the rows of a file of these bytes behind a header with these columns, or why there are none
+abbrev pub IsTableBehind : Columns → List ℕ → List Record → Result Table ReadFault → Type 0
+IsTableBehind columns bytes [] table = IsErrAnd table (IsHeaderFault bytes)
+IsTableBehind columns bytes (header ∷ others) table =
     ((places : Places) × ArePlaces columns header places
     × (table ≡ Ok (record { places = places; rows = others })))
-    ⊎ (((places : Places) → ¬ (ArePlaces columns header places)) × (table ≡ Err Header))
+    ⊎ (((places : Places) → ¬ (ArePlaces columns header places))
+    × IsErrAnd table (IsHeaderFault bytes))
 
 -- the rows of a file with this layout and a permitted number of bytes, or why there are none
 abbrev pub IsTable : Layout → List ℕ → Result Table ReadFault → Type 0
 IsTable layout bytes table =
     MatchBool (nat_lt most_file_bytes (length bytes))
     (table ≡ Err TooLong)
-    (IsTableBehind layout.columns (records_of layout.delimiter bytes) table)
+    (IsTableBehind layout.columns bytes (records_of layout.delimiter bytes) table)
 
 -- the result of a file with this layout: that of its rows, numbered from 1, or why it has none
 abbrev pub TableGives : {A : Type 0} → Layout

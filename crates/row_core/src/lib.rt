@@ -2,8 +2,10 @@
 //! are read from.
 #![tactic(auto)]
 
+mod beginning;
 mod ends;
 mod fields;
+mod first_line;
 mod header;
 mod layer_row;
 mod read_fault;
@@ -12,8 +14,10 @@ mod rows;
 mod source;
 mod unread;
 
+pub use beginning::Beginning;
 pub use ends::{ends_with_feed, is_plain};
 pub use fields::{four_fields, id_in, side_in};
+pub use first_line::FirstLine;
 pub use header::Places;
 pub use layer_row::{LayerRowReader, ReadRow, read_row};
 pub use read_fault::ReadFault;

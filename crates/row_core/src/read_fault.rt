@@ -1,5 +1,6 @@
 //! The faults of reading a file.
 
+use crate::beginning::Beginning;
 use format_core::TextFault;
 use layer_core::LayerFault;
 use std::alloc::AllocError;
@@ -16,15 +17,15 @@ pub enum ReadFault {
     /// The file has more than [`crate::MAX_FILE_BYTES`] bytes.
     #[error("file is too long")]
     TooLong,
-    /// The file doesn't begin with the names of its columns.
+    /// The file doesn't begin with the names of its columns, but with this.
     #[error("wrong header")]
-    Header,
+    Header(Beginning),
     /// This row doesn't have the fields of its kind of file.
     #[error("row {0}: wrong fields")]
     Row(u32),
-    /// The geometry of this row can't be read as a box.
+    /// The geometry of this row can't be read as a box; whether it can be as one of any kind.
     #[error("row {0}: {1}")]
-    Wkt(u32, WktFault),
+    Wkt(u32, WktFault, bool),
     /// The geometry of this row can't be read as one of any kind.
     #[error("row {0}: {1}")]
     Geometry(u32, GeometryFault),
@@ -62,7 +63,7 @@ impl ReadFault {
         ensures no_io { result ≢ ReadFault.Io }
     {
         match fault {
-            TextFault::Wkt(fault) => ReadFault::Wkt(number, fault),
+            TextFault::Wkt(fault, any) => ReadFault::Wkt(number, fault, any),
             TextFault::Geometry(fault) => ReadFault::Geometry(number, fault),
         }
     }
@@ -73,8 +74,9 @@ impl ReadFault {
     {
         match self {
             ReadFault::Row(row) | ReadFault::Layer(row, _) => Some(*row),
-            ReadFault::Wkt(row, _) | ReadFault::Geometry(row, _) => Some(*row),
-            ReadFault::Io | ReadFault::TooLong | ReadFault::Header | ReadFault::Memory => None,
+            ReadFault::Wkt(row, ..) | ReadFault::Geometry(row, _) => Some(*row),
+            ReadFault::Io | ReadFault::TooLong | ReadFault::Memory => None,
+            ReadFault::Header(_) => None,
         }
     }
 
@@ -88,9 +90,9 @@ impl ReadFault {
         match self {
             ReadFault::Io => "read failed",
             ReadFault::TooLong => "file is too long",
-            ReadFault::Header => "wrong header",
+            ReadFault::Header(_) => "wrong header",
             ReadFault::Row(_) => "wrong fields",
-            ReadFault::Wkt(_, fault) => fault.text(),
+            ReadFault::Wkt(_, fault, _) => fault.text(),
             ReadFault::Geometry(_, fault) => fault.text(),
             ReadFault::Layer(_, fault) => fault.text(),
             ReadFault::Memory => "no memory",

@@ -7,6 +7,7 @@ ghost use Rattle.csv.specs.Records.{fields_of};
 ghost use Rattle.row_core.specs.Records.{records_of, records_left, IsBetweenRecords};
 ghost use Rattle.row_core.specs.Records.{IsRefusedOrUnread, TakesRecord};
 
+use crate::beginning::Beginning;
 use crate::ends::is_unended;
 use crate::header::{Places, is_header, places_in};
 use crate::read_fault::ReadFault;
@@ -56,7 +57,7 @@ impl<'a> Rows<'a> {
     {
         let rows = Rows::behind_first(alloc, Delimiter::Comma, file)?;
         if !is_header(rows.row(), columns) {
-            return Err(ReadFault::Header);
+            return Err(ReadFault::Header(Beginning::new(file)));
         }
         Ok(rows)
     }
@@ -74,7 +75,7 @@ impl<'a> Rows<'a> {
     {
         let rows = Rows::behind_first(alloc, layout.delimiter, file)?;
         let Some(places) = places_in(rows.row(), layout.columns) else {
-            return Err(ReadFault::Header);
+            return Err(ReadFault::Header(Beginning::new(file)));
         };
         Ok((rows, places))
     }
@@ -97,7 +98,7 @@ impl<'a> Rows<'a> {
         let first = &mut *records;
         let found = next_record(first)?;
         if !found {
-            return Err(ReadFault::Header);
+            return Err(ReadFault::Header(Beginning::new(file)));
         }
         let unended = is_unended(&first.last);
         Ok(Rows {

@@ -111,9 +111,9 @@ module _ {G : Type 0} (format : Reading G) (unreadable : Unreadable) where
 right_first : (f : ReadFault) → first_fault None f ≡ Read Right f
 right_first read_faults.Io = refl
 right_first read_faults.TooLong = refl
-right_first read_faults.Header = refl
+right_first (read_faults.Header beginning) = refl
 right_first (read_faults.Row n) = refl
-right_first (read_faults.Wkt n g) = refl
+right_first (read_faults.Wkt n g any) = refl
 right_first (read_faults.Geometry n g) = refl
 right_first (read_faults.Layer n g) = refl
 right_first read_faults.Memory = refl
@@ -122,9 +122,9 @@ right_first read_faults.Memory = refl
 left_first : (g f : ReadFault) → (f ≡ read_faults.Io) ⊎ (first_fault (Some g) f ≡ Read Left g)
 left_first g read_faults.Io = inl refl
 left_first g read_faults.TooLong = inr refl
-left_first g read_faults.Header = inr refl
+left_first g (read_faults.Header beginning) = inr refl
 left_first g (read_faults.Row n) = inr refl
-left_first g (read_faults.Wkt n h) = inr refl
+left_first g (read_faults.Wkt n h any) = inr refl
 left_first g (read_faults.Geometry n h) = inr refl
 left_first g (read_faults.Layer n h) = inr refl
 left_first g read_faults.Memory = inr refl

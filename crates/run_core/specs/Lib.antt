@@ -1,6 +1,7 @@
 pub mod CsvWriting
 pub mod EditedLayers
 pub mod FaultTexts
+pub mod Hints
 pub mod ImproperRings
 pub mod Inputs
 pub mod LayerPairs

@@ -1,4 +1,4 @@
-//! The text of a fault, and writing it as a line.
+//! The text of a fault and of what may help, and writing them as lines.
 
 ghost use Rattle.std.specs.Prelude.{◌≡◌, ◌+◌, ◌≤◌, ◌↔◌, ◌++◌, false, length, IsTrue, IsErr, OnOk};
 ghost use Rattle.std.specs.Prelude.{OnErr};
@@ -6,19 +6,20 @@ ghost use Rattle.std.specs.Io.KnownBytes.{Appends};
 ghost use Rattle.row_core.specs.FaultTexts.{read_text, row_text};
 ghost use Rattle.parallel_core.specs.Faults.{join_text};
 ghost use Rattle.run_core.specs.FaultTexts.{run_text};
+ghost use Rattle.run_core.specs.Hints.{beginning_hint, read_hint, run_hint};
 ghost use Rattle.run_core.specs.Lines.{run_line};
 ghost use Rattle.report_core.specs.Written.{AppendsPrefix};
 
 use crate::fault::RunFault;
 use parallel_core::JoinFault;
 use report_core::{ROOM, ShortText, Sink, WriteFailed};
-use row_core::ReadFault;
+use row_core::{Beginning, ReadFault};
 
-/// Writes the line of a fault: the program's name, the input at fault and the fault. It allocates
-/// no memory.
+/// Writes the line of a fault: the program's name, the input at fault and the fault; and a line of
+/// what may help, if there is something. It allocates no memory.
 pub fn fault_line<S: Sink>(fault: &RunFault, sink: &mut S) -> Result<(), WriteFailed>
     requires { S.has_failed sink.old ≡ false }
-    // the line of every fault
+    // the line of every fault, and that of what may help
     ensures ok { OnOk result (Appends (S.written sink.old) (S.written sink.new)
         (run_line fault.now)) }
     ensures flushed { OnOk result (IsTrue (S.is_flushed sink.new)) }
@@ -28,7 +29,55 @@ pub fn fault_line<S: Sink>(fault: &RunFault, sink: &mut S) -> Result<(), WriteFa
 {
     let mut line = ShortText::begun();
     push_run_text(&mut line, fault);
+    push_run_hint(&mut line, fault);
     line.write(sink)
+}
+
+fn push_run_hint(line: &mut ShortText, fault: &RunFault)
+    requires { length line.old ≤ 101 }
+    ensures text { line.new ≡ line.old ++ run_hint fault.now }
+    ensures short { length line.new ≤ 201 }
+{
+    if let RunFault::Read(_, fault) = fault {
+        push_read_hint(line, fault);
+    }
+}
+
+fn push_read_hint(line: &mut ShortText, fault: &ReadFault)
+    requires { length line.old ≤ 101 }
+    ensures text { line.new ≡ line.old ++ read_hint fault.now }
+    ensures short { length line.new ≤ 201 }
+{
+    match fault {
+        ReadFault::Header(beginning) => {
+            line.push("\n");
+            push_beginning_hint(line, beginning);
+        }
+        ReadFault::Wkt(_, _, true) => line.push("\n--geometry any reads this row"),
+        _ => {}
+    }
+}
+
+fn push_beginning_hint(line: &mut ShortText, beginning: &Beginning)
+    requires { length line.old ≤ 102 }
+    ensures text { line.new ≡ line.old ++ beginning_hint beginning.now }
+    ensures short { length line.new ≤ 201 }
+{
+    match beginning {
+        Beginning::Line(first) => {
+            line.push("the first line begins with '");
+            line.push(first.as_str());
+            line.push("'");
+        }
+        Beginning::GeoPackage => {
+            line.push("python3 -m rjoin and recipes/from-ogr read this GeoPackage");
+        }
+        Beginning::Shapefile => {
+            line.push("python3 -m rjoin and recipes/from-ogr read this shapefile");
+        }
+        Beginning::Gzip => line.push("gzip -d unpacks this file"),
+        Beginning::Json => line.push("python3 -m rjoin and recipes/from-ogr read this GeoJSON"),
+    }
 }
 
 fn push_run_text(line: &mut ShortText, fault: &RunFault)
