@@ -16,27 +16,36 @@ use Rattle.words_core.specs.declared.condition.Geometries.{Geometries}
 use Rattle.words_core.specs.declared.condition.Geometries.TheVariants.{Box, Any}
 
 -- the result of a window with this text over the file of a layer
-abbrev pub GivesWindow : Geometries → Layout → Scale → List ℕ → Option (List ℕ) → Result (List ℕ) RunFault
-    → Type 0
+abbrev pub GivesWindow : Geometries → Layout → Scale → List ℕ → Option (List ℕ)
+    → Result (List ℕ) RunFault → Type 0
 GivesWindow Box layout scale wkt file = WindowGives layout scale wkt file
-GivesWindow (Any rings) layout scale wkt file = AnyWindowGives (laid_out layout (ReadsAny scale rings)) wkt file
+GivesWindow (Any rings) layout scale wkt file =
+    AnyWindowGives (laid_out layout (ReadsAny scale rings)) wkt file
 
 -- the counts of the layer of a file
-abbrev pub GivesCounts : Geometries → Layout → Scale → Option (List ℕ) → Result (List ℕ) RunFault → Type 0
+abbrev pub GivesCounts : Geometries → Layout → Scale → Option (List ℕ)
+    → Result (List ℕ) RunFault → Type 0
 GivesCounts Box layout scale file = LayerGives AreCounts (laid_out layout (ReadsBox scale)) file
-GivesCounts (Any rings) layout scale file = LayerGives AreAnyCounts (laid_out layout (ReadsAny scale rings)) file
+GivesCounts (Any rings) layout scale file =
+    LayerGives AreAnyCounts (laid_out layout (ReadsAny scale rings)) file
 
 -- the corners of the features of the layer of a file
-abbrev pub GivesCorners : Geometries → Layout → Scale → Option (List ℕ) → Result (List ℕ) RunFault → Type 0
-GivesCorners Box layout scale file = LayerGives (ListsCorners (λ s. s)) (laid_out layout (ReadsBox scale)) file
-GivesCorners (Any rings) layout scale file = LayerGives (ListsCorners box_of) (laid_out layout (ReadsAny scale rings)) file
+abbrev pub GivesCorners : Geometries → Layout → Scale → Option (List ℕ)
+    → Result (List ℕ) RunFault → Type 0
+GivesCorners Box layout scale file =
+    LayerGives (ListsCorners (λ s. s)) (laid_out layout (ReadsBox scale)) file
+GivesCorners (Any rings) layout scale file =
+    LayerGives (ListsCorners box_of) (laid_out layout (ReadsAny scale rings)) file
 
 -- a possible fault of a window, except that of its sink
-abbrev pub IsWindowFaultOf : Geometries → Layout → Scale → List ℕ → Option (List ℕ) → RunFault → Type 0
+abbrev pub IsWindowFaultOf : Geometries → Layout → Scale → List ℕ → Option (List ℕ) → RunFault
+    → Type 0
 IsWindowFaultOf Box layout scale wkt file = IsWindowFault layout scale wkt file
-IsWindowFaultOf (Any rings) layout scale wkt file = IsAnyWindowFault (laid_out layout (ReadsAny scale rings)) wkt file
+IsWindowFaultOf (Any rings) layout scale wkt file =
+    IsAnyWindowFault (laid_out layout (ReadsAny scale rings)) wkt file
 
 -- a possible fault of a text made of a layer, except that of its sink
 abbrev pub IsLayerFaultOf : Geometries → Layout → Scale → Option (List ℕ) → RunFault → Type 0
 IsLayerFaultOf Box layout scale file = IsLayerRunFault (laid_out layout (ReadsBox scale)) file
-IsLayerFaultOf (Any rings) layout scale file = IsLayerRunFault (laid_out layout (ReadsAny scale rings)) file
+IsLayerFaultOf (Any rings) layout scale file =
+    IsLayerRunFault (laid_out layout (ReadsAny scale rings)) file

@@ -7,9 +7,10 @@ ghost use Rattle.command_core.specs.Requests.{join_asks};
 
 use crate::workers::options_for;
 use file_core::Unreadable;
-use join_core::{AnyCondition, BoxCondition, JoinJob, any_join_text, join_text};
+use format_core::AnyFormat;
+use join_core::{JoinJob, join_text};
 use row_core::Source;
-use run_core::{JoinSources, JoinText, MarkedRows, RunFault};
+use run_core::{ImproperRings, JoinSources, JoinText, MarkedRows, RunFault, Unmarked};
 use std::hash::RandomState;
 use std::sync::Wait;
 use std::thread::Threads;
@@ -33,22 +34,25 @@ pub fn join_request_text<R: AllocGlobal + Threads + Wait + Sync, F: Source>(
     let options = options_for(rt, join.options, join.workers);
     match join.condition {
         Condition::Boxes(relation) => {
-            let condition = BoxCondition { scale, relation };
             let job = JoinJob {
-                condition,
+                format: scale,
+                marks: Unmarked,
+                relation,
                 options,
                 product,
             };
             join_text(rt, &job, unreadable, states, sources, improper)
         }
         Condition::Any(relation) => {
-            let condition = AnyCondition { scale, relation };
+            let rings = relation.rings();
             let job = JoinJob {
-                condition,
+                format: AnyFormat { scale, rings },
+                marks: ImproperRings { rings },
+                relation,
                 options,
                 product,
             };
-            any_join_text(rt, &job, unreadable, states, sources, improper)
+            join_text(rt, &job, unreadable, states, sources, improper)
         }
     }
 }

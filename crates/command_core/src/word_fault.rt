@@ -22,7 +22,9 @@ pub fn word_status(fault: &WordFault) -> u8
         WordFault::AllowsDisjoint => 2,
         WordFault::Options(_) => 2,
         WordFault::Scale => 2,
+        WordFault::ScaleOfAny => 2,
         WordFault::Distance => 2,
+        WordFault::DistanceOfAny => 2,
         WordFault::Most => 2,
         WordFault::Geometry => 2,
         WordFault::RingsOfBoxes => 2,
@@ -61,8 +63,12 @@ pub fn word_line<S: Sink>(fault: &WordFault, sink: &mut S) -> Result<(), WriteFa
             line.push(text);
         }
         WordFault::Scale => line.push("--scale must be 0 to 6"),
+        WordFault::ScaleOfAny => line.push("--scale must be 0 to 15"),
         WordFault::Distance => {
             line.push("--distance must be a number of the scale, 0 to 4000000000000 units");
+        }
+        WordFault::DistanceOfAny => {
+            line.push("--distance must be a number of the scale, 0 to 4000000000000000000 units");
         }
         WordFault::Most => line.push("--most must be 1 to 4294967295"),
         WordFault::Geometry => line.push("--geometry must be box or any"),

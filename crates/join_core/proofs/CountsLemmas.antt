@@ -1,6 +1,6 @@
 -- The numbers of the pairs of left features, and the rows that are written of these.
 use Rattle.std.proofs.Common.{◌≡◌, ◌≢◌, ◌+◌, ◌<◌, ◌≤◌, ℕ, inl, inr, List, [], ◌∷◌, ◌++◌, Vec, Global, ap, append-nil, append_assoc, sym, ◌∙◌}
-use Rattle.std.proofs.Common.{arith, eq-eqb, eqb, filter, get_or, get_or-set_other, get_or-set_same, length, length-take-le, map, ne_eqb, replicate, set, subst, take}
+use Rattle.std.proofs.Common.{eq-eqb, eqb, filter, get_or, get_or-set_other, get_or-set_same, length, length-take-le, map, ne_eqb, replicate, set, subst, take}
 use Rattle.std.proofs.lemmas.Bool.{cases_eq, cases_lt, cond-false, cond-true}
 use Rattle.std.proofs.lemmas.List.{get_or_past, get_or-replicate, length-replicate}
 use Rattle.std.proofs.lemmas.List.Sums.{count_by-le-length, count_by_more_no, count_by_more_yes}

@@ -3,4 +3,5 @@ pub mod Counts
 pub mod Firsts
 pub mod Joinings
 pub mod Products
+pub mod RelatedLayers
 pub mod Relating

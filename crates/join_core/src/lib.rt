@@ -2,16 +2,17 @@
 //! boxes.
 #![tactic(auto)]
 
-mod any_listed;
-mod any_run;
+mod any_product;
+mod box_product;
 mod counts;
 mod firsts;
 mod job;
 mod output;
 mod relate;
+mod relation;
 mod run;
 
-pub use any_run::any_join_text;
-pub use job::{AnyCondition, BoxCondition, JoinJob};
+pub use job::JoinJob;
 pub use relate::{matrix_line, run_relate};
+pub use relation::{LayersRelation, RelatedLayers};
 pub use run::join_text;

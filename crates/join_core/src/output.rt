@@ -3,56 +3,60 @@
 ghost use Rattle.std.specs.Prelude.{◌≡◌, true, false, All, AllPairs, IfOk, IfErr, map};
 ghost use Rattle.descent_core.specs.Rows.{Precedes};
 ghost use Rattle.layer_core.specs.Edits.{both};
-ghost use Rattle.draw_core.specs.Outlines.{box_drawing};
-ghost use Rattle.relation_core.specs.Matrices.{IsMatrix};
+ghost use Rattle.draw_core.specs.Drawings.{drawing_by};
 ghost use Rattle.report_core.specs.Reports.{IsHeld, IsReportBy};
 ghost use Rattle.join_core.specs.Firsts.{firsts_of};
-ghost use Rattle.join_core.specs.Products.{IsFew, IsMadeOf};
+ghost use Rattle.join_core.specs.Products.{IsFew, IsPlain};
 ghost use Rattle.run_core.specs.Texts.{bytes_of_text};
 
 use crate::counts::{counts_text, unmatched_text};
 use crate::firsts::first_pairs;
-use draw_core::{can_be_drawn, picture};
+use draw_core::{Drawn, can_be_drawn, picture};
 use layer_core::{Geometry, Layer};
 use pair_core::Product;
 use refine_core::AsPair;
-use report_core::{BoxLetters, LastField, NoField, ReportForm, report_by};
+use report_core::{LastField, NoField, ReportForm, report_by};
 use run_core::{RunFault, Text};
 use std::thread::Threads;
 
-/// The product of these pairs of two layers of boxes, made by at most `workers` threads.
+/// The product of these matches of two layers without matrices: of a report that has them, the
+/// report of ids.
 ///
 /// # Errors
 /// If an allocation fails.
-pub(crate) fn product_of_pairs<R: AllocGlobal + Threads + Sync>(
+pub(crate) fn plain_product<R, G, M>(
     rt: &R,
     product: Product,
     workers: u32,
-    left: &Layer,
-    right: &Layer,
-    pairs: &[(u32, u32)],
+    left: &Layer<G>,
+    right: &Layer<G>,
+    matches: &[M],
 ) -> Result<Text, RunFault>
-    requires held { All (IsHeld left.now.list right.now.list) pairs.now }
-    requires order { AllPairs Precedes pairs.now }
-    ensures ok { let made = IsMadeOf product IsMatrix box_drawing in
+where
+    R: AllocGlobal + Threads + Sync,
+    G: Drawn + Sync,
+    M: AsPair + Sync,
+    requires held { let is_held = IsHeld left.now.list right.now.list in
+        All (λ found. is_held (M.pair_of found)) matches.now }
+    requires order { AllPairs Precedes (map M.pair_of matches.now) }
+    ensures ok { let is = IsPlain product (drawing_by G.box_of G.start_of G.path_of) in
         let layers = both left.now.list right.now.list in
-        let listed = map (λ pair. pair) pairs.now in
-        IfOk result (λ text. made layers listed (bytes_of_text text)) }
+        IfOk result (λ text. is layers (map M.pair_of matches.now) (bytes_of_text text)) }
     ensures err { IfErr result (λ f. f ≡ RunFault.Memory) }
 {
     match product {
-        Product::Report => report(rt, &BoxLetters::new(), workers, left, right, pairs),
-        Product::Pairs => report(rt, &NoField, workers, left, right, pairs),
-        Product::Firsts => first_report(rt, &BoxLetters::new(), workers, left, right, pairs),
-        Product::FirstPairs => first_report(rt, &NoField, workers, left, right, pairs),
-        Product::Counts => Ok(Text::Rows(counts_text(rt.alloc(), left, pairs)?)),
-        Product::Unmatched => Ok(Text::Rows(unmatched_text(rt.alloc(), left, pairs)?)),
-        Product::Picture => Ok(Text::Picture(picture(rt.alloc(), left, right, pairs)?)),
+        Product::Report | Product::Pairs => report(rt, &NoField, workers, left, right, matches),
+        Product::Firsts | Product::FirstPairs => {
+            first_report(rt, &NoField, workers, left, right, matches)
+        }
+        Product::Counts => Ok(Text::Rows(counts_text(rt.alloc(), left, matches)?)),
+        Product::Unmatched => Ok(Text::Rows(unmatched_text(rt.alloc(), left, matches)?)),
+        Product::Picture => Ok(Text::Picture(picture(rt.alloc(), left, right, matches)?)),
     }
 }
 
 /// The report of these matches, with this last field.
-fn report<R, F, G, M>(
+pub(crate) fn report<R, F, G, M>(
     rt: &R,
     field: &F,
     workers: u32,

@@ -57,9 +57,9 @@ where
     E: Source,
     requires { AreFresh A.has_failed B.has_failed E.has_failed sources.old }
     // of geometries that are read by the form's format: by `MakesText`, the report, for each left
-    // feature of the edited layers, in layer order, of exactly its pairs with the right ones that the
-    // job's query asks for, each once, the nearest first and then in the order of the right layer.
-    // The columns and the last field are as `near_text` writes them
+    // feature of the edited layers, in layer order, of exactly its pairs with the right ones that
+    // the job's query asks for, each once, the nearest first and then in the order of the right
+    // layer. The columns and the last field are as `near_text` writes them
     ensures { let job = job.now in let reads = F.reads form.format in
         let files = files_by unreadable reads A.remaining B.remaining E.remaining sources.old in
         MakesText (texts_of_all (IsNearestReport G.Square.fraction G.has_point job.query job.scale))
@@ -92,7 +92,8 @@ where
     G: Planar + Sync,
     G::Form: Sync,
     G::Square: Send + Sync + Drop,
-    ensures ok { let is = IsNearestReport G.Square.fraction G.has_point job.now.query job.now.scale in
+    ensures ok { let is = IsNearestReport G.Square.fraction G.has_point job.now.query
+        job.now.scale in
         let layers = both left.now.list right.now.list in
         IfOk result (λ text. is layers (bytes_of_text text)) }
     ensures err { IfErr result IsLateFault }

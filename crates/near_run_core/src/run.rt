@@ -64,12 +64,12 @@ where
     B: Source,
     E: Source,
     requires { AreFresh A.has_failed B.has_failed E.has_failed sources.old }
-    // of geometries that are read by the form's format, with the job's distance: by `MakesText`, the
-    // report of exactly the pairs of the edited layers' features that are near, or near and apart,
-    // as the job asks, each once, in layer order, with `left,right,distance` in place of
-    // `left,right,matrix`. The last field is the root of the squared distance of the two geometries,
-    // a fraction, rounded to the nearest unit of the job's scale and half a unit up, and printed as
-    // coordinates are at that scale
+    // of geometries that are read by the form's format, with the job's distance: by `MakesText`,
+    // the report of exactly the pairs of the edited layers' features that are near, or near and
+    // apart, as the job asks, each once, in layer order, with `left,right,distance` in place of
+    // `left,right,matrix`. The last field is the root of the squared distance of the two
+    // geometries, a fraction, rounded to the nearest unit of the job's scale and half a unit up,
+    // and printed as coordinates are at that scale
     ensures { let job = job.now in let reads = ReadsGrown (F.reads form.format) job.distance in
         let files = files_by unreadable reads A.remaining B.remaining E.remaining sources.old in
         MakesText (texts_of_all (IsNearReport G.has_point job.nearness job.scale))

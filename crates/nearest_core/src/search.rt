@@ -126,8 +126,8 @@ fn visit<'a, G: Planar>(
     requires next { IsVisitable G.box_of sought.now.query.now right.now sought.now.geometry.now
         sought.now.bounds next }
     ensures heap { IsHeap (nearest_last G.Square.fraction) (heap_items measured.new) }
-    ensures visits { OnOk result (Visits G.Square.fraction G.has_point sought.now.query.now right.now
-        sought.now.geometry.now sought.now.bounds next.entry
+    ensures visits { OnOk result (Visits G.Square.fraction G.has_point sought.now.query.now
+        right.now sought.now.geometry.now sought.now.bounds next.entry
         (lists_of queue.old measured.old found.old.items)
         (lists_of queue.new measured.new found.new.items)) }
 {
@@ -155,7 +155,8 @@ fn push_measured<S: Square>(
     requires { IsHeap (nearest_last S.fraction) (heap_items measured.old) }
     ensures heap { IsHeap (nearest_last S.fraction) (heap_items measured.new) }
     ensures added { OnOk result
-        (IsPermutation (with_one number square (measured_in measured.old)) (measured_in measured.new)) }
+        (IsPermutation (with_one number square (measured_in measured.old))
+        (measured_in measured.new)) }
 {
     if let Some(square) = square {
         measured.push(Reverse(Neighbour { square, number }))?;

@@ -11,7 +11,7 @@ use itoa::Buffer;
 use std::marker::Model;
 
 /// The capacity of a short text, in bytes.
-pub const ROOM: usize = 128;
+pub const ROOM: usize = 224;
 
 /// A text of one or a few lines, of at most [`ROOM`] bytes.
 #[derive(Drop)]

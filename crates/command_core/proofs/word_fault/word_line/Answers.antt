@@ -3,7 +3,7 @@ use Rattle.run_core.specs.Lines.{line_of}
 use Rattle.command_core.specs.WordFaults.{word_fault_line}
 use Rattle.command_core.proofs.WordLemmas.{one_piece, two_pieces, ok_as, err_as}
 use Rattle.command_core.proofs.word_fault.word_line.Goals as goal
-use Rattle.command_core.proofs.word_fault.word_line.Goals.{in-Relation, in-AllowsDisjoint, in-Options, in-Scale, in-Delimiter, in-Distance, in-Most, in-Geometry, in-RingsOfBoxes, in-Rings, in-Memory}
+use Rattle.command_core.proofs.word_fault.word_line.Goals.{in-Relation, in-AllowsDisjoint, in-Options, in-Scale, in-ScaleOfAny, in-Delimiter, in-Distance, in-DistanceOfAny, in-Most, in-Geometry, in-RingsOfBoxes, in-Rings, in-Memory}
 
 pub returns-clause-ok : goal.returns-clause-ok
 returns-clause-ok g c =
@@ -15,8 +15,10 @@ returns-clause-ok g c =
       | in-Options w ↦ rw (w.in-Options.is, w.line-is, ← w.text-text-in-Options.ensures.text)
           (one_piece _ _ _ c.begun-line.ensures.text w.push-in-Options.ensures.text)
       | in-Scale w ↦ rw (w.in-Scale.is, w.line-is) (one_piece _ _ _ c.begun-line.ensures.text w.push-in-Scale.ensures.text)
+      | in-ScaleOfAny w ↦ rw (w.in-ScaleOfAny.is, w.line-is) (one_piece _ _ _ c.begun-line.ensures.text w.push-in-ScaleOfAny.ensures.text)
       | in-Delimiter w ↦ rw (w.in-Delimiter.is, w.line-is) (one_piece _ _ _ c.begun-line.ensures.text w.push-in-Delimiter.ensures.text)
       | in-Distance w ↦ rw (w.in-Distance.is, w.line-is) (one_piece _ _ _ c.begun-line.ensures.text w.push-in-Distance.ensures.text)
+      | in-DistanceOfAny w ↦ rw (w.in-DistanceOfAny.is, w.line-is) (one_piece _ _ _ c.begun-line.ensures.text w.push-in-DistanceOfAny.ensures.text)
       | in-Most w ↦ rw (w.in-Most.is, w.line-is) (one_piece _ _ _ c.begun-line.ensures.text w.push-in-Most.ensures.text)
       | in-Geometry w ↦ rw (w.in-Geometry.is, w.line-is) (one_piece _ _ _ c.begun-line.ensures.text w.push-in-Geometry.ensures.text)
       | in-RingsOfBoxes w ↦ rw (w.in-RingsOfBoxes.is, w.line-is) (one_piece _ _ _ c.begun-line.ensures.text w.push-in-RingsOfBoxes.ensures.text)
@@ -35,8 +37,10 @@ returns-clause-err g c =
       | in-Options w ↦ rw (w.in-Options.is, w.line-is, ← w.text-text-in-Options.ensures.text)
           (one_piece _ _ _ c.begun-line.ensures.text w.push-in-Options.ensures.text)
       | in-Scale w ↦ rw (w.in-Scale.is, w.line-is) (one_piece _ _ _ c.begun-line.ensures.text w.push-in-Scale.ensures.text)
+      | in-ScaleOfAny w ↦ rw (w.in-ScaleOfAny.is, w.line-is) (one_piece _ _ _ c.begun-line.ensures.text w.push-in-ScaleOfAny.ensures.text)
       | in-Delimiter w ↦ rw (w.in-Delimiter.is, w.line-is) (one_piece _ _ _ c.begun-line.ensures.text w.push-in-Delimiter.ensures.text)
       | in-Distance w ↦ rw (w.in-Distance.is, w.line-is) (one_piece _ _ _ c.begun-line.ensures.text w.push-in-Distance.ensures.text)
+      | in-DistanceOfAny w ↦ rw (w.in-DistanceOfAny.is, w.line-is) (one_piece _ _ _ c.begun-line.ensures.text w.push-in-DistanceOfAny.ensures.text)
       | in-Most w ↦ rw (w.in-Most.is, w.line-is) (one_piece _ _ _ c.begun-line.ensures.text w.push-in-Most.ensures.text)
       | in-Geometry w ↦ rw (w.in-Geometry.is, w.line-is) (one_piece _ _ _ c.begun-line.ensures.text w.push-in-Geometry.ensures.text)
       | in-RingsOfBoxes w ↦ rw (w.in-RingsOfBoxes.is, w.line-is) (one_piece _ _ _ c.begun-line.ensures.text w.push-in-RingsOfBoxes.ensures.text)

@@ -1,14 +1,15 @@
 use denote.Param.Send.{sendable}
+use Rattle.layer_core.specs.Edits.{both}
 use Rattle.any_join_core.specs.Conditions.{features_of}
-use Rattle.any_join_core.proofs.RefinedLayers.{near_pairs}
 use Rattle.any_join_core.proofs.SyncLemmas.{pairs_sync}
-use Rattle.join_core.proofs.AnyJoinLemmas.{pairs_match, report_joined}
-use Rattle.join_core.proofs.any_run.pair_report.Goals as goal
+use Rattle.join_core.proofs.AnyJoinLemmas.{near_pairs, near_there, pairs_match, pairs_reported, report_here}
+use Rattle.join_core.proofs.any_product.pair_report.Goals as goal
 
 pub report_refining-requires-clause-near : goal.report_refining-requires-clause-near
 report_refining-requires-clause-near g c κs within =
     let new = c.in_ok-condition.ensures in
-    near_pairs (features_of c.in_ok-condition.condition) _ _ _ new.left new.right new.relation _ _ c.pairs-candidates.ensures c.in_ok-outcome.ensures.pairs
+    near_there (features_of c.in_ok-condition.condition) _ _ _ new.left new.right new.relation _
+    (near_pairs c.args.relation.now (both c.args.left.now.list c.args.right.now.list) _ _ c.pairs-candidates.ensures c.in_ok-outcome.ensures.pairs)
 
 pub report_refining-requires-clause-matches : goal.report_refining-requires-clause-matches
 report_refining-requires-clause-matches g c κs within =
@@ -21,6 +22,6 @@ report_refining-requires-sync-C g c κs within = search (sendable, pairs_sync) d
 pub returns-clause-ok : goal.returns-clause-ok
 returns-clause-ok g c =
     let new = c.in_ok-condition.ensures in
-    let is = report_joined (features_of c.in_ok-condition.condition) _ _ _ new.left new.right new.relation _ _ _ _ _ _ c.pairs-candidates.ensures c.in_ok-outcome.ensures.pairs
-    c.in_ok-texts.ensures.report in
-    record { few = tt; pairs = is.pairs; are_pairs = is.are_pairs; made = is.report }
+    pairs_reported c.args.relation.now (both c.args.left.now.list c.args.right.now.list) _ _ c.pairs-candidates.ensures c.in_ok-outcome.ensures.pairs
+    (λ i j m. Unit {0}) _
+    (report_here (features_of c.in_ok-condition.condition) _ _ _ new.left new.right new.relation (λ x y i j m. Unit {0}) _ _ _ c.in_ok-texts.ensures.report)
