@@ -66,7 +66,6 @@ impl Board {
     ///
     /// A draw is one `fetch_add` of 1 on the board's word; a seat that has already met the end does
     /// nothing. The call allocates no memory, never waits and always returns.
-    #[tactic(auto, using(crate::proofs::BoardMoves::word_bound))]
     pub fn claim(&self, seat: &mut BoardSeat) -> Option<u32>
         requires { IsSeatOf self.now seat.old }
         // it stays a seat of this board

@@ -215,7 +215,6 @@ impl Collector {
     }
 
     /// The number that the next batch of a task must have.
-    #[tactic(auto, using(crate::proofs::Histories::counter))]
     fn awaited(&self, task: u32) -> Result<u64, Refusal>
         ensures { result ≡ awaited self.now task }
     {

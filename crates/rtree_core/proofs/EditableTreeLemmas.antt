@@ -11,7 +11,7 @@ use Rattle.rtree_core.specs.declared.node.Entry.{Entry}
 use Rattle.rtree_core.specs.declared.node.Node.{Node}
 use Rattle.rtree_core.specs.declared.editable_tree.EditableTree.{EditableTree}
 use Rattle.rtree_core.specs.Insertions.{StaysOne, ComesInTwo}
-use Rattle.rtree_core.specs.Items.{entry_alone, FitsLeaf, FitsInner, IsNodeOf}
+use Rattle.rtree_core.specs.Items.{FitsInner, IsNodeOf}
 use Rattle.rtree_core.specs.Nodes.{entries_of, level_of, size_of, IsLawfulAt}
 use Rattle.rtree_core.specs.FreeLists.{AreFree, IsFree, IsSpent}
 use Rattle.split_core.specs.Collections.{HasSame}
@@ -88,51 +88,6 @@ some_of : (r : Option Node) (P : Node → Type 0) → IsSomeAnd r P → (m : Nod
 some_of None P h = absurd h
 some_of (Some m) P h = (m, refl, h)
 
--- an entry came into a tree that had none
-root_made : (x : Entry) (old new : EditableTree) (n : Node) →
-    old.root ≡ None →
-    new.root ≡ Some n →
-    new.height ≡ 1 →
-    IsNodeOf (λ e. e.shape) entry_alone FitsLeaf (x ∷ []) n →
-    AreFree new.free →
-    IsSound old →
-    vec_len old.free.leaves ≤ vec_len new.free.leaves + 1 →
-    vec_len old.free.inners ≤ vec_len new.free.inners →
-    HasTakenIn 1 (x ∷ []) old new
-root_made x old new n none is one node lists sound leaf inner =
-    let lawful : IsLawfulAt 0 n = node.lawful 0 (λ k d lt. refl) in
-    let level = lawful_level 0 n lawful in
-    let low : old.height ≡ 0 = sound.height_is ∙ ap height_of none in
-    record {
-      sound = record {
-        lawful = rw is (lawful_is 0 n lawful);
-        height_is = rw (is, level) one;
-        lists = lists;
-      };
-      gains = rw (none, is, node.entries_are) (λ p. refl);
-      no_lower = omega arith;
-      spent = λ k e. can_take_after k old new (omega arith) leaf (omega arith) e;
-      rooted = λ h. rw is (record { lawful = lawful_is 0 n lawful; two = λ above. absurd (omega arith) });
-    }
-
--- the same, if the node's list was taken from the free ones
-pub root_made_from : (x : Entry) (old new : EditableTree) (n : Node) (list page : Vec Entry Global) →
-    old.root ≡ None →
-    IsSound old →
-    new.root ≡ Some n →
-    new.height ≡ 1 →
-    IsRoom list →
-    page.items ≡ list.items ++ x ∷ [] →
-    IsNodeOf (λ e. e.shape) entry_alone FitsLeaf page.items n →
-    IsFree new.free.leaves.items →
-    vec_len new.free.leaves + 1 ≡ vec_len old.free.leaves →
-    new.free.inners ≡ old.free.inners →
-    HasTakenIn 1 (x ∷ []) old new
-root_made_from x old new n list page none sound is one room pushed node leaves taken inners =
-    let items : page.items ≡ x ∷ [] = pushed ∙ ap (λ xs. xs ++ x ∷ []) room.empty in
-    root_made x old new n none is one (rw items at node) (record { leaves = leaves; inners = rw inners sound.lists.inners }) sound (omega arith)
-    (rw inners (omega arith))
-
 module _ (added : List Entry) (shape : Shape) (old : EditableTree) (n : Node) (is : old.root ≡ Some n) (sound : IsSound old) where
   height : old.height ≡ level_of n + 1
   height = sound.height_is ∙ ap height_of is
@@ -189,7 +144,7 @@ module _ (added : List Entry) (shape : Shape) (old : EditableTree) (n : Node) (i
       }
 
 -- two nodes have a parent
-pub of_two : (l : ℕ) (a b n : Node) →
+of_two : (l : ℕ) (a b n : Node) →
     FitsInner (suc l) a →
     FitsInner (suc l) b →
     IsNodeOf (λ m. m.cover) entries_of FitsInner ((a ∷ []) ++ b ∷ []) n →
@@ -199,6 +154,34 @@ of_two l a b n p q node = (
   node.lawful (suc l) (All-push (FitsInner (suc l)) (a ∷ []) b (All-cons (FitsInner (suc l)) a [] p (All-nil (FitsInner (suc l)))) q),
   node.entries_are ∙ ap (λ es. entries_of a ++ es) (append-nil (entries_of b)),
 )
+
+-- a new root was made of the old one and a second node, and its list was taken from the free ones
+pub root_grown : (second first n : Node) (old new : EditableTree) (list page full : Vec Node Global) →
+    old.root ≡ Some first →
+    IsSomeAnd old.root (FitsInner (suc (level_of second))) →
+    FitsInner (suc (level_of second)) second →
+    new.root ≡ Some n →
+    new.height ≡ old.height + 1 →
+    IsRoom list →
+    page.items ≡ list.items ++ first ∷ [] →
+    full.items ≡ page.items ++ second ∷ [] →
+    IsNodeOf (λ m. m.cover) entries_of FitsInner full.items n →
+    AreFree old.free →
+    IsFree new.free.inners.items →
+    vec_len new.free.inners + 1 ≡ vec_len old.free.inners →
+    new.free.leaves ≡ old.free.leaves →
+    HasGrownBy second old new
+root_grown second first n old new list page full was fits second_fits is height room one both node lists inners taken leaves =
+    let items : full.items ≡ (first ∷ []) ++ second ∷ [] = both ∙ ap (λ xs. xs ++ second ∷ []) (one ∙ ap (λ xs. xs ++ first ∷ []) room.empty) in
+    let parent = of_two (level_of second) first second n (rw was at fits) second_fits (rw items at node) in
+    record {
+      root = rw is (parent.0, parent.1);
+      entries = rw (is, was) parent.2;
+      height_is = height;
+      lists = record { leaves = rw leaves lists.leaves; inners = inners };
+      leaf = leaves;
+      inner = omega (arith, taken);
+    }
 
 pub took_none : (t : EditableTree) → IsSound t → HasTakenIn 0 [] t t
 took_none t sound = record {

@@ -5,7 +5,7 @@ use Rattle.std.specs.Prelude.{All, count_by, sum_by}
 use Rattle.std.specs.List.{flat_map, fold}
 use Rattle.std.specs.declared.alloc.Global.{Global}
 use Rattle.std.specs.declared.vec.Vec.{Vec}
-use Rattle.std.proofs.lemmas.List.Elements.{All-head, All-get_or, All-nil, All-weaker}
+use Rattle.std.proofs.lemmas.List.Elements.{All-head, All-get_or, All-weaker}
 use Rattle.std.proofs.lemmas.List.Sums.{sum_by-append, sum_by-cons}
 use Rattle.geom_core.specs.declared.shape.Shape.{Shape}
 use Rattle.rtree_core.specs.declared.node.Entry.{Entry}
@@ -14,16 +14,12 @@ use Rattle.rtree_core.specs.declared.node.Node.{Node}
 use Rattle.split_core.specs.Covers.{IsLeastCover}
 use Rattle.rtree_core.specs.Items.{entry_alone, FitsLeaf, FitsInner, IsNodeList, IsNodeOf, leaf_node, inner_node}
 use Rattle.split_core.specs.Limits.{fewest}
-use Rattle.rtree_core.specs.Nodes.{entries_of, own_entries, level_of, size_of, children_of, IsPage, IsInner, IsLawfulAt, IsLawful}
-use Rattle.rtree_core.specs.Packed.{half_full, IsPackedAt, FitsPacked, IsPackedOf}
+use Rattle.rtree_core.specs.Nodes.{entries_of, level_of, size_of, IsPage, IsInner, IsLawfulAt, IsLawful}
 use Rattle.rtree_core.proofs.NodeLemmas.{entries_leaf, level_leaf, entries_inner, level_inner}
 
 -- a leaf by its list
 pub leaf_entries : (c : Shape) (v : Vec Entry Global) → entries_of (leaf_node c v) ≡ v.items
 leaf_entries c v = entries_leaf (leaf_node c v) v (outs-Entries v)
-
-pub leaf_list : (c : Shape) (v : Vec Entry Global) → own_entries (leaf_node c v) ≡ v.items
-leaf_list c v = rw outs-Entries refl
 
 pub leaf_level : (c : Shape) (v : Vec Entry Global) → level_of (leaf_node c v) ≡ 0
 leaf_level c v = level_leaf (leaf_node c v) v (outs-Entries v)
@@ -37,9 +33,6 @@ leaf_size c v = rw outs-Entries refl
 -- an inner node by its list
 pub inner_entries : (c : Shape) (v : Vec Node Global) → entries_of (inner_node c v) ≡ flat_map entries_of v.items
 inner_entries c v = entries_inner (inner_node c v) v (outs-Children v)
-
-pub inner_children : (c : Shape) (v : Vec Node Global) → children_of (inner_node c v) ≡ v.items
-inner_children c v = rw outs-Children refl
 
 pub inner_size : (c : Shape) (v : Vec Node Global) → size_of (inner_node c v) ≡ vec_len v
 inner_size c v = rw outs-Children refl
@@ -101,13 +94,6 @@ leaf_made c v list tight = record {
       (leaf_lawful c v (list_page (λ e. e.shape) c v list tight));
 }
 
-leaf_children : (c : Shape) (v : Vec Entry Global) → children_of (leaf_node c v) ≡ []
-leaf_children c v = rw outs-Entries refl
-
-pub leaf_packed : (c : Shape) (v : Vec Entry Global) → IsPackedOf (λ _ _. Unit {0}) v.items (leaf_node c v)
-leaf_packed c v zero all = tt
-leaf_packed c v (suc level) all = rw (leaf_children c v) (All-nil (λ m. (half_full ≤ size_of m) × IsPackedAt level m))
-
 none_fits : (ns : List Node) → 0 < length ns → All (FitsInner 0) ns → ⊥
 none_fits [] some all = omega arith
 none_fits (n ∷ ns) some all = All-head (FitsInner 0) n ns all
@@ -135,10 +121,6 @@ inner_made c v list tight = record {
   lawful = λ level all. inner_lawful level c v (list_page (λ n. n.cover) c v list tight) all;
 }
 
-pub inner_packed : (c : Shape) (v : Vec Node Global) → IsPackedOf FitsPacked v.items (inner_node c v)
-inner_packed c v zero all = tt
-inner_packed c v (suc level) all = rw (inner_children c v) all
-
 -- its children are ones that it may hold
 pub inner_fits : (c : Shape) (v : Vec Node Global) (o : Opened c v) → All (FitsInner (suc o.level)) v.items
 inner_fits c v o k d lt = (o.inner.children k d lt, o.inner.enough k d lt)
@@ -153,9 +135,3 @@ as_leaf_level n v e = ap level_of (as_leaf n v e) ∙ leaf_level n.cover v
 -- a node that was found to have children
 pub as_inner : (n : Node) (v : Vec Node Global) → n.below ≡ made_children v → n ≡ inner_node n.cover v
 as_inner n v e = ap (λ b. record { cover = n.cover; below = b }) e
-
-pub as_inner_lawful : (n : Node) (v : Vec Node Global) → n.below ≡ made_children v → IsLawful n → IsLawful (inner_node n.cover v)
-as_inner_lawful n v e h = subst IsLawful (as_inner n v e) h
-
-pub as_inner_level : (n : Node) (v : Vec Node Global) → n.below ≡ made_children v → level_of n ≡ level_of (inner_node n.cover v)
-as_inner_level n v e = ap level_of (as_inner n v e)

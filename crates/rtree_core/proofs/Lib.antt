@@ -10,4 +10,3 @@ pub mod TakeLemmas
 pub mod PackingLemmas
 pub mod HeightLemmas
 pub mod PackLemmas
-pub mod Rules

@@ -14,7 +14,7 @@ use Rattle.std.proofs.lemmas.List.{length-map, get_or-map}
 use Rattle.std.proofs.lemmas.List.Elements.{All-head, All-tail, All-map, All-weaker}
 use Rattle.split_core.specs.Limits.{fewest}
 use Rattle.split_core.specs.Covers.{IsLeastCover}
-use Rattle.rtree_core.specs.Nodes.{entries_step, entries_of, level_step, level_of, size_of, children_of, leaf_law, inner_law, IsLeaf, IsLawfulAt, IsLawful}
+use Rattle.rtree_core.specs.Nodes.{entries_step, entries_of, level_step, level_of, size_of, children_of, leaf_law, inner_law, IsLawfulAt, IsLawful}
 use Rattle.rtree_core.specs.Nodes.{AreLawfulChildren}
 
 flat_map-map : {A B C : Type 0} (f : A → B) (g : B → List C) (xs : List A) → flat_map g (map f xs) ≡ flat_map (λ x. g (f x)) xs
@@ -44,13 +44,6 @@ level_leaf n v e = level_unfold n ∙ rw e refl
 
 pub level_inner : (n : Node) (v : Vec Node Global) → out-Below n.below ≡ Children v → level_of n ≡ fold max 0 (map level_of v.items) + 1
 level_inner n v e = level_unfold n ∙ rw e refl
-
--- the items of a node decide if it is a leaf
-pub holds_entries : (n : Node) (v : Vec Entry Global) → out-Below n.below ≡ Entries v → IsLeaf n
-holds_entries n v e = rw e tt
-
-pub holds_children : (n : Node) (v : Vec Node Global) → out-Below n.below ≡ Children v → ¬ (IsLeaf n)
-holds_children n v e leaf = rw e at leaf
 
 fold_max_from : (l : ℕ) (xs : List ℕ) → All (λ x. x ≡ l) xs → fold max l xs ≡ l
 fold_max_from l [] h = refl

@@ -190,8 +190,6 @@ share_of size items (suc o) some is =
       leaves_many = λ m h. rw others (omega (arith, share_many q r o m lt (omega arith)));
     }
 
-pub ruleset shares = (share_within, length-map)
-
 -- the first `place` pages were cut from the items as these nodes, and the rest remains
 pub record IsCut {K : Type 0} (entries : K → List Entry) (fits fits_packed : ℕ → K → Type 0) (InRange : K → Type 0) (items : List K) (pages place : ℕ)
     (nodes : List Node) (rest : List K) : Type 0 where

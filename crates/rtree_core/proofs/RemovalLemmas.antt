@@ -4,7 +4,7 @@ use Rattle.std.specs.Vec.{with_items}
 use Rattle.std.specs.declared.alloc.Global.{Global}
 use Rattle.std.specs.declared.vec.Vec.{Vec}
 use Rattle.std.proofs.Props.{props}
-use Rattle.std.proofs.Common.{arith, ◌≡◌, ℕ, zero, suc, ◌+◌, ◌<◌, ◌≤◌, Bool, true, false, List, [], ◌∷◌, length, get_or, refl, sym, ◌∙◌, ap, subst, ◌⊎◌, inl, inr}
+use Rattle.std.proofs.Common.{arith, ◌≡◌, ℕ, zero, suc, ◌+◌, ◌<◌, ◌≤◌, Bool, true, false, List, [], ◌∷◌, length, get_or, refl, sym, ◌∙◌, ap, subst, inl, inr}
 use Rattle.std.proofs.Common.{below_more}
 use Rattle.std.specs.Prelude.{◌↔◌, IsTrue, IsSomeAnd, Contains, Option, Some, ◌&&◌, not, nat_eq, ℤ}
 use Rattle.std.specs.List.{flat_map}
@@ -19,6 +19,7 @@ use Rattle.geom_core.specs.Cells.{IsIn}
 use Rattle.rtree_core.specs.declared.node.Entry.{Entry}
 use Rattle.rtree_core.specs.declared.node.Node.{Node}
 use Rattle.rtree_core.specs.Nodes.{entries_of, level_of, size_of, IsLawful, IsLawfulAt}
+use Rattle.rtree_core.specs.Removals.{IsPlaceOf}
 use Rattle.rtree_core.specs.Trees.{entries_in}
 use Rattle.rtree_core.proofs.NodeLemmas.{has_entries}
 use Rattle.rtree_core.proofs.WindowLemmas.{lawful_cover}
@@ -65,19 +66,6 @@ entry_same a b h =
 
 pub entry_itself : (a : Entry) → eq-value.it a a ≡ true
 entry_itself a = grind (arith, nat_tests, ints)
-
-tested : (a b : Entry) (t : Bool) → eq-value.it a b ≡ t → (t ≡ false) ⊎ (a ≡ b)
-tested a b true h = inr (entry_same a b h)
-tested a b false h = inl refl
-
--- the meaning of the test of two entries
-pub same_or_not : (a b : Entry) → (eq-value.it a b ≡ false) ⊎ (a ≡ b)
-same_or_not a b = tested a b _ refl
-
-pub test_turned : (a b : Entry) → eq-value.it a b ≡ eq-value.it b a
-test_turned a b = grind (arith, nat_tests, ints, same_or_not, entry_itself)
-
-pub ruleset entry_tests = (same_or_not, entry_itself, test_turned)
 
 -- a list of one item
 only : {T : Type 0} (xs : List T) (x : T) → length xs ≡ 1 → x ≡ get_or xs 0 x → xs ≡ x ∷ []
@@ -145,6 +133,9 @@ pub other_there : (root : Option Node) (leaf : Node) (x e : Entry) (es : List En
     IsTrue false ↔ Contains (entries_in root) e
 other_there root leaf x e es is one held there other =
     (λ h. absurd (false≢true h), λ h. absurd (other_entry root leaf x e es is (rw is at one) held there other h))
+
+pub place_found : (es : List Entry) (e : Entry) (p : ℕ) (x : Entry) → p < length es → x ≡ get_or es p x → eq-value.it x e ≡ true → IsPlaceOf es e p
+place_found es e p x lt at same = record { inside = lt; there = get_or_default es p e x lt ∙ sym at ∙ entry_same x e same }
 
 pub not_there : (es : List Entry) (e : Entry) (p : ℕ) (x : Entry) → p < length es → x ≡ get_or es p x → eq-value.it x e ≡ false → get_or es p e ≡ e → ⊥
 not_there es e p x lt at differ there =

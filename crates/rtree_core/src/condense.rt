@@ -14,7 +14,6 @@ impl EditableTree {
     ghost use Rattle.rtree_core.specs.EditableTrees.{IsSound, IsRooted, CanTake, HasTakenIn};
 
     /// Inserts the items of the nodes set aside again, lowest level first (Guttman 1984, 3.3, CT6).
-    #[tactic(auto, using(crate::proofs::EditableTreeLemmas::took_none))]
     pub(crate) fn reinsert(&mut self, aside: &mut Vec<Node>)
         requires sound { IsSound self.old }
         requires are_aside { AreAside aside.old.items }
@@ -33,7 +32,6 @@ impl EditableTree {
     }
 
     /// Inserts the items of a node of a level again.
-    #[tactic(auto, using(crate::proofs::Rules::reinsert_node))]
     fn reinsert_node(&mut self, node: Node, level: u32)
         requires sound { IsSound self.old }
         requires lawful { IsLawfulAt level node }

@@ -68,7 +68,6 @@ impl EditableTree {
     }
 
     /// Makes a leaf of one entry the root.
-    #[tactic(auto, using(crate::proofs::EditableTreeLemmas::root_made_from))]
     fn make_root(&mut self, entry: Entry)
         requires sound { IsSound self.old }
         requires can_take { CanTake 1 self.old }
@@ -102,7 +101,6 @@ impl EditableTree {
     }
 
     /// Makes the root and its second half the children of a new root.
-    #[tactic(auto, using(crate::proofs::EditableTreeLemmas::of_two))]
     fn add_level(&mut self, second: Node)
         requires first { IsSomeAnd self.old.root (FitsInner (suc (level_of second))) }
         requires second { FitsInner (suc (level_of second)) second }

@@ -45,7 +45,6 @@ impl Item for Entry {
 
     ghost fits_packed = { λ _ _. Unit {0} };
 
-    #[tactic(auto, using(crate::proofs::Rules::leaf_of))]
     fn node_of(page: Vec<Entry>) -> Node
         requires { IsNodeList page }
         ensures node { IsNodeOf (λ e. e.shape) entry_alone FitsLeaf page.items result }
@@ -73,7 +72,6 @@ impl Item for Node {
 
     ghost fits_packed = { FitsPacked };
 
-    #[tactic(auto, using(crate::proofs::Rules::inner_node_of))]
     fn node_of(page: Vec<Node>) -> Node
         requires { IsNodeList page }
         ensures node { IsNodeOf (λ n. n.cover) entries_of FitsInner page.items result }

@@ -46,7 +46,6 @@ impl Node {
     ghost use Rattle.split_core.specs.Covers.{IsLeastCover};
 
     /// Whether the node holds entries and no children: it is on level 0.
-    #[tactic(auto, using(crate::proofs::Rules::is_leaf))]
     pub fn is_leaf(&self) -> bool
         // true exactly where it holds entries
         ensures leaf { IsTrue result ↔ IsLeaf self.now }
@@ -71,7 +70,6 @@ impl Node {
     }
 
     /// The children of an inner node, at least one.
-    #[tactic(auto, using(crate::proofs::Rules::children))]
     pub fn children(&self) -> &[Node]
         requires { IsLeaf self.now → ⊥ }
         // those of an inner node
@@ -114,7 +112,6 @@ impl Node {
 
     /// The smallest shape that contains the shapes of its entries, or the covers of its children.
     #[inline(always)]
-    #[tactic(auto, using(crate::proofs::WindowLemmas::lawful_cover))]
     pub fn cover(&self) -> Shape
         // the bounding box that the node keeps
         ensures value { result ≡ node_cover self.now }

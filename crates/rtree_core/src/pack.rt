@@ -110,7 +110,6 @@ impl Packable for Placed {
 }
 
 /// The size of the first of `pages` pages that share `items` items.
-#[tactic(auto, using(crate::proofs::PackLemmas::share_of))]
 fn page_size(items: usize, pages: usize) -> usize
     requires { 0 < pages }
     ensures value { result ≡ items_before 1 pages items }
@@ -120,7 +119,6 @@ fn page_size(items: usize, pages: usize) -> usize
 }
 
 /// Moves the first `size` items into a list with a capacity one more than the greatest node size.
-#[tactic(auto, using(crate::proofs::PackLemmas::page_none))]
 fn next_page<T: Packable>(
     alloc: Global,
     items: &mut IntoIter<T, Global>,
@@ -145,7 +143,6 @@ fn next_page<T: Packable>(
 }
 
 /// The nodes of a level, made of their items in the order of their pages.
-#[tactic(auto, using(crate::proofs::PackLemmas::shares))]
 fn nodes_of<T: Packable>(alloc: Global, items: Vec<T>) -> Result<Vec<Placed>, AllocError>
     ensures nodes { let held = map T.held items.items in
         let AreNodes = AreNodesOf T.Held.entries T.Held.fits T.Held.fits_packed held in

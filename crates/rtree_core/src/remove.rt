@@ -105,7 +105,6 @@ fn take_from_leaf(cover: &mut Shape, entries: &mut Vec<Entry>, entry: &Entry) ->
 /// Removes an entry from the subtree of one of a node's children, and that child from the list if
 /// it is left with fewer than three items. Returns whether the entry was there.
 #[cycle(removal)]
-#[tactic(auto, using(crate::proofs::ItemLemmas::inner_size))]
 fn take_from_inner(
     cover: &mut Shape,
     children: &mut Vec<Node>,
@@ -158,7 +157,6 @@ fn take_from_one(nodes: &mut [Node], entry: &Entry, aside: &mut Vec<Node>) -> Op
 }
 
 /// The index of an entry in a list.
-#[tactic(auto, using(crate::proofs::Rules::place_of))]
 fn place_of(entries: &[Entry], entry: &Entry) -> Option<usize>
     ensures found { IfSome result (IsPlaceOf entries.now entry.now) }
     ensures none { IfNone result (Contains entries.now entry.now → ⊥) }

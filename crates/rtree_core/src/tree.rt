@@ -70,7 +70,6 @@ impl RTree {
     ///
     /// Each node below the root has 4 to 8 entries or children. On an error, the entries are
     /// dropped.
-    #[tactic(auto, using(crate::proofs::PackLemmas::list_tiled))]
     pub fn pack(alloc: Global, mut entries: Vec<Entry>) -> Result<RTree, AllocError>
         requires distinct { (k : ℕ) → count_by (has_number k) entries.items ≤ 1 }
         // exactly those of the list
@@ -126,7 +125,6 @@ impl RTree {
     }
 
     /// The packed tree of entries in the order of their pages.
-    #[tactic(auto, using(crate::proofs::Rules::from_pages))]
     fn from_pages(alloc: Global, entries: Vec<Entry>) -> Result<RTree, AllocError>
         requires distinct { (k : ℕ) → count_by (has_number k) entries.items ≤ 1 }
         requires order { IsTileOrder (λ e. e.shape) (λ e. e.number) entries.items }
@@ -187,7 +185,6 @@ impl RTree {
     /// Inserts an entry whose number the tree doesn't hold.
     ///
     /// On an error, the tree is unchanged.
-    #[tactic(auto, using(crate::proofs::Rules::insert_tree))]
     pub fn insert(&mut self, entry: Entry) -> Result<(), AllocError>
         requires { IsFresh entry.number self.old }
         // the entries gain exactly this one
@@ -204,7 +201,6 @@ impl RTree {
     /// Removes the entry with this shape and number, and returns whether the tree held it.
     ///
     /// On an error, the tree is unchanged.
-    #[tactic(auto, using(crate::proofs::TreeLemmas::tree_height))]
     pub fn remove(&mut self, entry: &Entry) -> Result<bool, AllocError>
         // true exactly where an equal entry was held
         ensures held { let there = Contains (entries_in self.old) entry.now in

@@ -9,7 +9,7 @@ use Rattle.rtree_core.specs.declared.node.Node.{Node}
 use Rattle.rtree_core.specs.Packed.{IsShare}
 use Rattle.split_core.specs.Tiles.{items_before}
 use Rattle.rtree_core.proofs.PackingLemmas.{pages_none, pages_more, pages_all, enumerate_next}
-use Rattle.rtree_core.proofs.PackLemmas.{share_some, share_fits, cut_none, cut_more, cut_all, cut_in_range}
+use Rattle.rtree_core.proofs.PackLemmas.{share_some, share_fits, share_within, cut_none, cut_more, cut_all, cut_in_range}
 use Rattle.rtree_core.proofs.pack.nodes_of.Goals as goal
 use Rattle.rtree_core.proofs.pack.nodes_of.Goals.{After-page_size-size}
 
@@ -105,3 +105,13 @@ push_reserved-requires g c =
 
 pub returns-clause-places : goal.returns-clause-places
 returns-clause-places g c = c.loop-place.invariant.places
+
+pub next_page-requires-clause-enough : goal.next_page-requires-clause-enough
+next_page-requires-clause-enough g c =
+    let within = share_within _ _ _ (omega (arith, c.loop-place-test.true)) c.page_size-size.ensures.share in
+    omega (arith, within, c.len-left.ensures)
+
+pub next_page-requires-clause-few : goal.next_page-requires-clause-few
+next_page-requires-clause-few g c =
+    let at = (goal.at.next_page-requires-clause-few g c).After-page_size-size in
+    share_fits _ _ _ _ _ _ _ _ _ _ c.loop-place-test.true c.loop-place.invariant.cut (share g at)

@@ -110,3 +110,9 @@ returns-else-word-from-clause-draw c fresh =
       word,
       draw_end c.args.self.now c.args.seat.now _ word (omega arith) (sym over ∙ counts.over_is) (omega arith) (met.drawn ∙ drawn) refl met.counted.over_is,
     )
+
+pub returns-then-word-from-clause-word_bound : goal.returns-then-word-from-clause-word_bound
+returns-then-word-from-clause-word_bound c = word_bound (size_of c.args.self.now)
+
+pub returns-else-word-from-clause-word_bound : goal.returns-else-word-from-clause-word_bound
+returns-else-word-from-clause-word_bound c = word_bound (size_of c.args.self.now)

@@ -1,5 +1,4 @@
-use Rattle.std.proofs.Common.{◌≡◌, [], ◌∷◌, refl, sym, ◌∙◌}
-use Rattle.rtree_core.specs.Trees.{entries_in}
+use Rattle.std.proofs.Common.{refl, sym, ◌∙◌}
 use Rattle.rtree_core.proofs.RemovalLemmas.{only_there, other_there, holds_only}
 use Rattle.rtree_core.proofs.editable_tree.EditableTree.remove_last.Goals as goal
 
