@@ -12,7 +12,10 @@ _rjoin() {
     --relation)
         offered="intersects touches crosses within contains overlaps equals covers covered_by contains_properly"
         ;;
-    --scale) offered="0 1 2 3 4 5 6" ;;
+    --scale)
+        offered="0 1 2 3 4 5 6"
+        [[ " ${words[*]} " == *" --geometry any "* ]] && offered+=" 7 8 9 10 11 12 13 14 15"
+        ;;
     --geometry) offered="box any" ;;
     --rings) offered="proper even-odd" ;;
     --edits | --skip) _filedir && return ;;

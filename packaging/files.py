@@ -20,8 +20,8 @@ INTEGRATION_PAGES = ("docs/QGIS.md", "docs/KLAYOUT.md", "docs/POSTGIS.md", "docs
                      "docs/klayout.png", "docs/postgis.svg", "docs/spacing.svg", "docs/storms.svg")
 PAGES = ("README.md", "CHANGELOG.md", "docs/*.md", "docs/*.svg", "docs/*.png")
 HOSTS = ("integrations/qgis", "integrations/klayout", "integrations/postgis")
-RECIPES = ("recipes/debian_layers.py", "recipes/from-ogr", "recipes/from-postgis", "recipes/real-layers",
-           "recipes/tasks", "recipes/to-postgis", "recipes/with-postgres")
+RECIPES = ("recipes/debian_layers.py", "recipes/exact_relations.py", "recipes/from-ogr", "recipes/from-postgis",
+           "recipes/real-layers", "recipes/tasks", "recipes/to-postgis", "recipes/with-postgres")
 
 INTERPRETERS = {b"#!/usr/bin/env python3\n": b"#!/usr/bin/python3\n", b"#!/usr/bin/env bash\n": b"#!/bin/bash\n"}
 

@@ -2,7 +2,7 @@
 -- folder, with the variables left, right (tables), left_id, right_id, left_geometry, right_geometry (columns or empty),
 -- left_columns, right_columns (JSON lists of columns to carry), left_prefix, right_prefix (of their names in the new
 -- table), left_where, right_where (conditions of rows that take part), geography (error, cast), others (error,
--- envelope, skip), rings (valid, even-odd), decimals (0 to 6, or empty), into and skipped (new tables), append (whether
+-- envelope, skip), rings (valid, even-odd), decimals (0 to 15, or empty), into and skipped (new tables), append (whether
 -- they may be there), keeps_left (whether left rows without a partner are in the result), command (of rjoin: join,
 -- near, nearest), relation (empty for the others), distance and distance_decimals (a number and its decimals, 0 for
 -- none), alone (whether pairs have no matrix), and with RJOIN, RJOIN_COMMAND, RJOIN_CONDITION (a word), RJOIN_MORE
@@ -121,9 +121,14 @@ begin
     return shape;
 end $$;
 
--- The greatest coordinate at a number of decimals.
+-- The most decimals, and the greatest coordinate at a number of decimals; and both of boxes, if rjoin reads the layers
+-- as points, segments along an axis and rectangles.
+create function pg_temp.rjoin_most_decimals() returns integer language sql immutable as $$ select 15 $$;
 create function pg_temp.rjoin_limit(decimals integer) returns bigint language sql immutable as $$
-    select 1000000000000 / (10 ^ decimals)::bigint $$;
+    select 1000000000000000000 / (10 ^ decimals)::bigint $$;
+create function pg_temp.rjoin_box_decimals() returns integer language sql immutable as $$ select 6 $$;
+create function pg_temp.rjoin_box_limit(decimals integer) returns bigint language sql immutable as $$
+    select pg_temp.rjoin_limit(decimals) / 1000000 $$;
 
 -- Why the coordinates of a geometry, in two dimensions and with these bounds, can't be read at any number of decimals;
 -- null if they can. Bounds are wrong where a number in their midst is none, but lengths are none then.
@@ -131,8 +136,8 @@ create function pg_temp.rjoin_coordinate_fault(shape geometry, x1 double precisi
     x2 double precision, y2 double precision) returns text language sql immutable as $$
     select case
         when greatest(x2, y2) = 'NaN' then 'a coordinate is not a number'
-        when least(x1, y1) < -1e12 or greatest(x2, y2) > 1e12
-            then 'a coordinate is out of range: the limit is 1000000000000'
+        when least(x1, y1) < -pg_temp.rjoin_limit(0) or greatest(x2, y2) > pg_temp.rjoin_limit(0)
+            then 'a coordinate is out of range: the limit is ' || pg_temp.rjoin_limit(0)
         when ST_NPoints(shape) = 1 then null
         when ST_Length(shape) + ST_Perimeter(shape) = 'NaN' then 'a coordinate is not a number'
         when ST_GeometryType(shape) in ('ST_LineString', 'ST_MultiLineString', 'ST_Polygon', 'ST_MultiPolygon')
@@ -240,8 +245,9 @@ begin
     end;
 end $$;
 
--- The fewest decimals that write a number exactly, or 7. The quotient of two whole numbers is correctly rounded, so
--- it equals the number exactly where the decimal number is read back as it.
+-- The decimals of the shortest decimal number that is read back as a number. The quotient of two whole numbers is
+-- correctly rounded, so it equals the number exactly where the decimal number is read back as it; the shortest of up to
+-- 15 digits is the only one.
 create function pg_temp.rjoin_decimals(number double precision) returns integer language sql immutable as $$
     select case
         when round(number) = number then 0
@@ -251,18 +257,18 @@ create function pg_temp.rjoin_decimals(number double precision) returns integer 
         when round(number * 1e4) / 1e4 = number then 4
         when round(number * 1e5) / 1e5 = number then 5
         when round(number * 1e6) / 1e6 = number then 6
-        else 7
+        else scale(number::text::numeric)
     end $$;
 
--- The fewest decimals that write all coordinates of a text with all digits, or 7: the most that one has behind its dot.
--- A number near zero has an exponent.
+-- The fewest decimals that write all coordinates of a text with all digits, or one more than the most: those that one
+-- has behind its dot. A number near zero has an exponent.
 create function pg_temp.rjoin_decimals(wkt text) returns integer language plpgsql immutable as $$
 declare decimals integer := 0;
 begin
     if strpos(wkt, 'e-') > 0 then
-        return 7;
+        decimals := (select max(scale(numbers[1]::numeric)) from regexp_matches(wkt, '[0-9.]+e-[0-9]+', 'g') numbers);
     end if;
-    while decimals < 7 and wkt ~ ('\.[0-9]{' || decimals + 1 || '}') loop
+    while decimals <= pg_temp.rjoin_most_decimals() and wkt ~ ('\.[0-9]{' || decimals + 1 || '}') loop
         decimals := decimals + 1;
     end loop;
     return decimals;
@@ -284,8 +290,8 @@ begin
     end;
 end $$;
 
--- The text of any other geometry without its empty parts. A number next to half a unit of 6 decimals, where each digit
--- matters, has at most 23 decimals.
+-- The text of any other geometry without its empty parts, with all digits of its numbers, which are 17 at most: numbers
+-- with more than 30 decimals have an exponent.
 create function pg_temp.rjoin_wkt(shape geometry) returns text language plpgsql immutable as $$
 declare wkt text := ST_AsText(shape, 30);
 begin
@@ -389,17 +395,39 @@ end $$;
 
 -- The most decimals at which a coordinate is in range.
 create function pg_temp.rjoin_most(reach double precision) returns integer language sql as $$
-    select max(decimals) from generate_series(0, 6) decimals where reach <= pg_temp.rjoin_limit(decimals) $$;
+    select max(decimals) from generate_series(0, pg_temp.rjoin_most_decimals()) decimals
+    where reach <= pg_temp.rjoin_limit(decimals) $$;
 
--- The fewest decimals that write all coordinates of a layer exactly; ends the run where 6 don't.
+-- Whether rjoin may read the layers as boxes at some decimals, with a greatest distance.
+create function pg_temp.rjoin_are_boxes(decimals integer, distance double precision) returns boolean language plpgsql
+as $$
+begin
+    return decimals <= pg_temp.rjoin_box_decimals()
+        and greatest(pg_temp.rjoin_reach(), distance) <= pg_temp.rjoin_box_limit(decimals)
+        and not exists (select from rjoin_left where wkt is not null)
+        and not exists (select from rjoin_right where wkt is not null);
+end $$;
+
+-- To how many decimals distances are rounded at least: those of boxes, as far as the range allows them.
+create function pg_temp.rjoin_finest(distance double precision) returns integer language plpgsql as $$
+begin
+    return case
+        when pg_temp.rjoin_are_boxes(0, distance) then (
+            select max(decimals) from generate_series(0, pg_temp.rjoin_box_decimals()) decimals
+            where pg_temp.rjoin_are_boxes(decimals, distance))
+        else least(pg_temp.rjoin_box_decimals(), pg_temp.rjoin_most(greatest(pg_temp.rjoin_reach(), distance)))
+    end;
+end $$;
+
+-- The fewest decimals that write all coordinates of a layer exactly; ends the run where the most don't.
 create function pg_temp.rjoin_fewest(target name, source regclass) returns integer language plpgsql as $$
 declare
     most integer;
-    bad text := pg_temp.rjoin_first(target, 'decimals > 6');
+    bad text := pg_temp.rjoin_first(target, 'decimals > pg_temp.rjoin_most_decimals()');
 begin
     if bad is not null then
-        raise exception '%, id %: a coordinate isn''t written exactly by 6 decimals; %, at most %, to round',
-            source, bad, 'give --decimals', pg_temp.rjoin_most(pg_temp.rjoin_reach());
+        raise exception '%, id %: a coordinate isn''t written exactly by % decimals; %, at most %, to round',
+            source, bad, pg_temp.rjoin_most_decimals(), 'give --decimals', pg_temp.rjoin_most(pg_temp.rjoin_reach());
     end if;
     execute format('select coalesce(max(decimals), 0) from %I where fault is null', target) into most;
     return most;
@@ -580,16 +608,16 @@ select pg_temp.rjoin_check_system() \g /dev/null
 
 \if :lists
     -- Without given decimals, those first that no number of decimals suits: they would decide it for all rows.
-    select pg_temp.rjoin_leave_out('rjoin_left', 'least(decimals, 6)'),
-        pg_temp.rjoin_leave_out('rjoin_right', 'least(decimals, 6)') where :'decimals' = '' \g /dev/null
+    select pg_temp.rjoin_leave_out('rjoin_left', 'least(decimals, pg_temp.rjoin_most_decimals())'),
+        pg_temp.rjoin_leave_out('rjoin_right', 'least(decimals, pg_temp.rjoin_most_decimals())')
+    where :'decimals' = '' \g /dev/null
 \endif
 select case when :'decimals' <> '' then nullif(:'decimals', '')::integer
     else greatest(pg_temp.rjoin_fewest('rjoin_left', :'left'), pg_temp.rjoin_fewest('rjoin_right', :'right'))
     end as decimals, :'decimals' = '' and :'by_distance' as is_finer \gset
--- By distance there are as many decimals as the range allows, but no fewer.
+-- By distance there are as many decimals as those of boxes where the range allows them, but no fewer.
 \if :is_finer
-    select greatest(:decimals, :distance_decimals, pg_temp.rjoin_most(greatest(pg_temp.rjoin_reach(), :distance)))
-        as decimals \gset
+    select greatest(:decimals, :distance_decimals, pg_temp.rjoin_finest(:distance)) as decimals \gset
 \endif
 \if :lists
     select pg_temp.rjoin_leave_out('rjoin_left', :'decimals'), pg_temp.rjoin_leave_out('rjoin_right', :'decimals')
@@ -605,10 +633,8 @@ select pg_temp.rjoin_write('rjoin_left', :'left', :decimals, 'rjoin_left_file'),
 \copy (select id, wkt from rjoin_left_file) to 'left.csv' csv header
 \copy (select id, wkt from rjoin_right_file) to 'right.csv' csv header
 
-select '--scale ' || :decimals || ' --round' || case
-    when exists (select from rjoin_left where wkt is not null)
-        or exists (select from rjoin_right where wkt is not null)
-    then ' --geometry any --rings even-odd' else '' end as format \gset
+select '--scale ' || :decimals || ' --round' || case when pg_temp.rjoin_are_boxes(:decimals, :distance) then ''
+    else ' --geometry any --rings even-odd' end as format \gset
 \setenv RJOIN_FORMAT :format
 create temporary table rjoin_pairs (left_n bigint, right_n bigint :measure_of_pairs) on commit drop;
 \copy rjoin_pairs from program 'exec "$RJOIN" "$RJOIN_COMMAND" left.csv right.csv $RJOIN_FORMAT "$RJOIN_CONDITION" $RJOIN_MORE --workers "$RJOIN_WORKERS"' csv header

@@ -85,7 +85,8 @@ def test_others(wkb: bytes, reason: str) -> None:
 
 @pytest.mark.parametrize("numbers, decimals", [
     ([], 0), ([1.0, -3.0], 0), ([0.5], 1), ([0.1, 2.25, 7.0], 2), ([0.29], 2), ([1e6 - 1e-6], 6),
-    ([1e12], 0), ([0.000001], 6), ([1.0, 0.1 + 0.2], 6), ([0.0000001], 6),
+    ([1e12], 0), ([0.000001], 6), ([1.0, 0.1 + 0.2], 15), ([0.0000001], 7),
+    ([0.5, 179.123456789012], 12), ([0.123456789012345], 15), ([5812393.255999999], 9),
 ])
 def test_fewest_decimals(numbers: Sequence[float], decimals: int) -> None:
     assert module("decimals").fewest_decimals(numbers) == decimals
@@ -93,10 +94,12 @@ def test_fewest_decimals(numbers: Sequence[float], decimals: int) -> None:
 
 def test_limit_depends_on_decimals() -> None:
     decimals = module("decimals")
-    decimals.check_limit([1e6], 6)
+    decimals.check_limit([1e3], 15)
     with pytest.raises(decimals.CoordinateError):
-        decimals.check_limit([1e6 + 0.5], 6)
-    assert decimals.most_decimals([1.0, -5.5e6]) == 5 and decimals.most_decimals([]) == 6
+        decimals.check_limit([1e3 + 0.5], 15)
+    assert decimals.most_decimals([1.0, -5.5e6]) == 11 and decimals.most_decimals([]) == 15
+    assert decimals.BOXES.fit([1e6], 6) and not decimals.BOXES.fit([1e6 + 0.5], 6)
+    assert not decimals.BOXES.fit([1.0], 7) and decimals.BOXES.in_range([-5.5e6]) == 5
     assert list(decimals.rounded_places([0.29, -1.005], 2)) == [1]
 
 

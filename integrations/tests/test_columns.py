@@ -174,11 +174,13 @@ def test_all_in_units() -> None:
 
     units = module("decimals")
     source = random.Random(11)
-    for decimals in range(7):
+    for decimals in range(16):
         values = [0.0, -0.0, 0.5, -0.5, 1.005, -2.675, 0.29, 1e-7, 4.35, 0.0000005, 999999.9999995]
         values += [source.randrange(-10**9, 10**9) * 5 / 10**source.randrange(8)
                    for _ in range(3000)]
         values += [source.uniform(-1e6, 1e6) for _ in range(3000)]
+        values += [source.uniform(-1e3, 1e3) for _ in range(3000)]
+        values = [value for value in values if units.ANY.fit([value], decimals)]
         found = units.all_in_units(numpy.array(values), decimals).tolist()
         assert found == [units.in_units(value, decimals) for value in values]
 

@@ -83,7 +83,8 @@ def refused(server: Dict[str, str], *words: str, **variables: str) -> str:
     ended = command(server, *words, **variables)
     assert ended.returncode == 1 and ended.stderr.startswith("rjoin-postgis: ")
     lines = ended.stderr.splitlines()
-    assert len(lines) == 1 or len(lines) == 2 and lines[1].startswith("did you mean"), ended.stderr
+    hints = ("did you mean ", "--geometry any reads this row")
+    assert len(lines) == 1 or len(lines) == 2 and lines[1].startswith(hints), ended.stderr
     assert not NOISE.search(ended.stderr), ended.stderr
     return ended.stderr
 
@@ -172,7 +173,7 @@ def test_decimals_of_distances(server: Dict[str, str]) -> None:
     done(server, "origin", "around", "--distance", "30000001", "--into", "origin_wide")
     assert psql(server, "select count(*) from origin_wide") == [["2"]]
     assert "--distance must be a number of the scale" in refused(
-        server, "origin", "around", "--distance", "1000000000001", "--into", "never")
+        server, "origin", "around", "--distance", "4000000000000000001", "--into", "never")
     wrong: Dict[str, str] = {
         "--distance 4e7": "not a decimal number: '4e7'",
         "--distance 1.25 --decimals 1": "--distance has more than 1 decimals",
@@ -449,37 +450,37 @@ def test_names_that_the_script_uses_too(server: Dict[str, str], name: str) -> No
 
 def test_decimals(server: Dict[str, str]) -> None:
     psql(server, "create table fine (number int primary key, a geometry, b geometry)",
-         "insert into fine values (7, 'POINT (0.2500001 0.5)', 'POINT (0.25 0.5)')",
+         "insert into fine values (7, 'POINT (0.2500000000000001 0.5)', 'POINT (0.25 0.5)')",
          "create table far (number int primary key, a geometry)",
-         "insert into far values (9, 'POINT (2000000 0.000001)')")
+         "insert into far values (9, 'POINT (2000000 0.000000000001)')")
     words = ["fine", "zones", "--relation", "within", "--into"]
     assert "fine has 2 columns of type geometry" in refused(server, *words, "fine_pairs")
     words += ["fine_pairs", "--left-geometry", "a"]
-    assert ("fine, id 7: a coordinate isn't written exactly by 6 decimals; give --decimals, at most"
-            " 6, to round") in refused(server, *words)
+    assert ("fine, id 7: a coordinate isn't written exactly by 15 decimals; give --decimals, at"
+            " most 15, to round") in refused(server, *words)
     told = done(server, *words, "--decimals", "2")
     assert "rjoin-postgis: warning: fine: rows with coordinates rounded to 2 decimals: 1" in told
     own = psql(server, "select number, id from fine join zones on ST_Within(b, geom) order by 2")
     assert psql(server, "select left_id, right_id from fine_pairs order by 2") == own and own
     words = ["far", "zones", "--relation", "within", "--into", "far_pairs"]
-    for given in ("", "--decimals 6"):
+    for given in ("", "--decimals 12"):
         fault = refused(server, *words, *given.split())
-        assert f"far, id 9: {AT_6}; give --decimals, at most 5, or --others skip" in fault
-    psql(server, "update far set a = 'POINT (2000000 0.0000001)'")
-    assert ("far, id 9: a coordinate isn't written exactly by 6 decimals; give --decimals, at most"
-            " 5, to round") in refused(server, *words)
-    done(server, *words, "--decimals", "5")
+        assert f"far, id 9: {AT_12}; give --decimals, at most 11, or --others skip" in fault
+    psql(server, "update far set a = 'POINT (2000000 0.0000000000000001)'")
+    assert ("far, id 9: a coordinate isn't written exactly by 15 decimals; give --decimals, at most"
+            " 11, to round") in refused(server, *words)
+    done(server, *words, "--decimals", "11")
 
 
 def test_coordinates_below_zero(server: Dict[str, str]) -> None:
     """Their size counts without the sign."""
     psql(server, "create table below (id int primary key, geom geometry)",
-         "insert into below values (1, 'POINT (-2000000 0.000001)'), (2, 'POINT (-1 -1)')")
+         "insert into below values (1, 'POINT (-2000000 0.000000000001)'), (2, 'POINT (-1 -1)')")
     words = ["below", "below", "--relation", "equals", "--into", "below_pairs"]
-    assert f"below, id 1: {AT_6}; give --decimals, at most 5, or --others skip" in refused(
+    assert f"below, id 1: {AT_12}; give --decimals, at most 11, or --others skip" in refused(
         server, *words)
     done(server, *words, "--others", "skip")
-    assert psql(server, "select distinct id, reason from below_pairs_skipped") == [["1", AT_6]]
+    assert psql(server, "select distinct id, reason from below_pairs_skipped") == [["1", AT_12]]
     assert psql(server, "select left_id, right_id from below_pairs") == [["2", "2"]]
     psql(server, "update below set geom = 'POINT (0.5 -30000000)' where id = 1",
          "create table zero (id int primary key, geom geometry)",
@@ -489,8 +490,8 @@ def test_coordinates_below_zero(server: Dict[str, str]) -> None:
 
 
 NO_NUMBER = "a coordinate is not a number"
-TOO_FAR = "a coordinate is out of range: the limit is 1000000000000"
-AT_6 = "a coordinate is out of range: the limit at 6 decimals is 1000000"
+TOO_FAR = "a coordinate is out of range: the limit is 1000000000000000000"
+AT_12 = "a coordinate is out of range: the limit at 12 decimals is 1000000"
 BEYOND = {
     "ST_Point('NaN', 1)": NO_NUMBER,
     "ST_MakeLine(ST_Point('NaN', 0), ST_Point(0, 1))": NO_NUMBER,
@@ -500,8 +501,8 @@ BEYOND = {
     "ST_Collect(ST_Point(1, 1), ST_Point('NaN', 1))": NO_NUMBER,
     "ST_MakeLine(array[ST_Point(0, 0), ST_Point('Infinity', 0), ST_Point(1, 0)])": TOO_FAR,
     "ST_Point(0, -1e300)": TOO_FAR,
-    "ST_MakeLine(ST_Point(1e12 + 1, 0.12345678), ST_Point(0, 0))": TOO_FAR,
-    "ST_Point(2000000, 0.000001)": AT_6,
+    "ST_MakeLine(ST_Point(1e18 + 1e3, 0.12345678), ST_Point(0, 0))": TOO_FAR,
+    "ST_Point(2000000, 0.000000000001)": AT_12,
     "ST_Point(3000000, 1)": None,
     "ST_Point(1, 1.25)": None,
 }
@@ -530,10 +531,10 @@ def test_coordinates_that_no_decimals_write_are_left_out(server: Dict[str, str],
 
 def test_rows_out_of_range_of_the_decimals_are_left_out(server: Dict[str, str]) -> None:
     psql(server, "create table wide (id int primary key, geom geometry)",
-         "insert into wide values (1, 'POINT (2000000 1)'), (2, 'POINT (0.000001 1)')")
+         "insert into wide values (1, 'POINT (2000000 1)'), (2, 'POINT (0.000000000001 1)')")
     words = ["wide", "wide", "--relation", "equals", "--others", "skip", "--into"]
     assert "rows listed in wide_pairs_skipped: 2\n" in done(server, *words, "wide_pairs")
-    assert psql(server, "select distinct id, reason from wide_pairs_skipped") == [["1", AT_6]]
+    assert psql(server, "select distinct id, reason from wide_pairs_skipped") == [["1", AT_12]]
     assert psql(server, "select left_id, right_id from wide_pairs") == [["2", "2"]]
     assert "rows listed in wide_5_skipped: 0\n" in done(server, *words, "wide_5", "--decimals", "5")
 
@@ -553,13 +554,13 @@ def test_rounding_is_half_a_unit_away_from_zero(server: Dict[str, str]) -> None:
     psql(server, "create table halves (id text primary key, geom geometry)",
          "insert into halves values ('east', 'LINESTRING (0.125 -1, 0.125 1)'),"
          " ('west', 'LINESTRING (-0.125 -1, -0.125 1)'),"
-         " ('slanted', 'LINESTRING (-1.005 -2.000000001, 1.005 2)'),"
+         " ('slanted', 'LINESTRING (-1.005 -2.0000000000000004, 1.005 2)'),"
          " ('short', 'LINESTRING (9 9, 9.001 9)'), ('tiny', 'LINESTRING (9 9, 9.001 9.001)')",
          "create table marks (id text primary key, geom geometry)",
          "insert into marks values ('east', 'POINT (0.13 0.5)'), ('west', 'POINT (-0.13 0.5)'),"
          " ('middle', 'POINT (0 0)'), ('end', 'POINT (1.01 2)'), ('far', 'POINT (9 9)')")
     words = ["marks", "halves", "--relation", "intersects", "--into", "on_halves"]
-    assert "halves, id slanted: a coordinate isn't written exactly by 6 decimals" in refused(
+    assert "halves, id slanted: a coordinate isn't written exactly by 15 decimals" in refused(
         server, *words)
     words += ["--decimals", "2"]
     assert ("halves, id tiny: not points, lines or polygons that rjoin reads, but a line that has"
@@ -592,7 +593,7 @@ def test_polygons_that_rounding_flattens(server: Dict[str, str]) -> None:
         ["right", "dot", "a polygon that is a point once rounded to 2 decimals"]]
 
 
-@pytest.mark.parametrize("decimals", range(1, 7))
+@pytest.mark.parametrize("decimals", (1, 2, 6, 7, 8, 11, 14, 15))
 def test_the_fewest_decimals_write_all_digits(server: Dict[str, str], decimals: int) -> None:
     """Numbers that differ in the last decimal, of points and of slanted lines."""
     ones = "0." + (decimals - 1) * "1"
@@ -660,6 +661,16 @@ def test_all_digits_are_handed_over(server: Dict[str, str]) -> None:
     done(server, "ends", "digits", "--relation", "touches", "--into", "ended", "--decimals", "6")
     assert psql(server, "select left_id, right_id from ended order by 1") == [
         ["1", "1"], ["2", "2"], ["3", "3"], ["4", "4"]]
+    psql(server, "create table tiny (id int primary key, geom geometry)",
+         "insert into tiny values (1, ST_MakeLine(ST_Point(5e-16, 0), ST_Point(1, 1))),"
+         " (2, ST_MakeLine(ST_Point(4.9999999999999995e-16, 0), ST_Point(1, 1))),"
+         " (3, ST_MakeLine(ST_Point(0.0000001234567890123456, 0), ST_Point(1, 1)))",
+         "create table tips (id int primary key, geom geometry)",
+         "insert into tips values (1, 'POINT (0.000000000000001 0)'), (2, 'POINT (0 0)'),"
+         " (3, 'POINT (0.000000123456789 0)')")
+    done(server, "tips", "tiny", "--relation", "touches", "--into", "tipped", "--decimals", "15")
+    assert psql(server, "select left_id, right_id from tipped order by 1") == [
+        ["1", "1"], ["2", "2"], ["3", "3"]]
 
 
 def test_rows_of_conditions_take_part(server: Dict[str, str]) -> None:

@@ -303,9 +303,9 @@ WORLD = "/usr/share/qgis/resources/data/world_map.gpkg|layername="
 
 
 def test_the_map_of_the_world(runs: Any, tmp_path: Path) -> None:
-    """The layers that QGIS ships, whose coordinates have more than 6 decimals: the same features
+    """The layers that QGIS ships, whose coordinates have more than 15 decimals: the same features
     with the same fields. Disputed borders run within a millionth of a degree of countries: QGIS
-    gives the pairs of the rounded layers where it joins rounded ones."""
+    gives the pairs of layers that are rounded to 6 decimals where it joins such ones."""
     if not Path(WORLD.partition("|")[0]).exists():
         pytest.skip("QGIS's map of the world isn't there")
     countries, borders = f"{WORLD}countries", f"{WORLD}disputed_borders"
@@ -317,8 +317,8 @@ def test_the_map_of_the_world(runs: Any, tmp_path: Path) -> None:
         ours(countries, borders, "intersects"), ours(countries, borders, "intersects", DECIMALS=6),
         *rounded, natives(paths[0], paths[1], "intersects"),
         ours(countries, countries, "within"), natives(countries, countries, "within")])
-    assert "Decimals of the coordinates: 6" in whole["log"] and whole["rows"] == given["rows"]
-    assert numbers(whole) == numbers(theirs) and len(numbers(whole)) == 80
+    assert "Decimals of the coordinates: 15" in whole["log"] and numbers(whole)
+    assert numbers(given) == numbers(theirs) and len(numbers(given)) == 80
     assert compared(within) == compared(native) and within["results"]["PAIRS"] == 240
 
 
@@ -364,7 +364,8 @@ def test_within_distance(runs: Any, left: str, right: str, distance: float) -> N
 
 
 def test_decimals_of_distances(runs: Any, tmp_path: Path) -> None:
-    """As many as the size of the coordinates allows, unless they are given."""
+    """Those of the coordinates and of the distance, and up to 6 as the size of the coordinates
+    allows, unless they are given."""
     one = layer(tmp_path / "one.csv", {"a": "POINT (0 0)"})
     other = layer(tmp_path / "other.csv", {"b": "POINT (1 1)", "c": "POINT (2 0.5)"})
     far = layer(tmp_path / "far.csv", {"f": "POINT (30000000 0)"})
@@ -376,11 +377,11 @@ def test_decimals_of_distances(runs: Any, tmp_path: Path) -> None:
     assert [row["distance"] for row in given["rows"]["OUTPUT"]] == [1.4]
     assert "Decimals of the distances: 4" in coarse["log"] and distances(coarse)
     assert "Distance: 1.25 has more than 1 decimals" in refused["error"]
-    assert "Distance: 1.41421362 is rounded to 6 decimals" in many["log"]
+    assert "Decimals of the distances: 8" in many["log"]
     assert distances(many) == [("a", "b", 1.414214)]
     assert [(row["id"], row["distance"]) for row in lonely["rows"]["OUTPUT"]] == [("a", None)]
-    assert "Distance: 29999998.00000001 is rounded to 4 decimals" in wide["log"]
-    assert distances(wide) == []
+    assert "Decimals of the distances: 8" in wide["log"]
+    assert distances(wide) == [("f", "c", 29999998.0)]
 
 
 def test_distances_of_other_shapes(runs: Any) -> None:
@@ -681,9 +682,9 @@ def test_decimals(runs: Any, tmp_path: Path) -> None:
     """The fewest that write all exactly, or else as many as the range allows."""
     quarter = layer(tmp_path / "quarter.csv", {"a": "POINT (0.25 0.5)", "b": "POINT (0.3 3)"})
     zone = layer(tmp_path / "zone.csv", {"z": "POLYGON ((0.25 0, 1 0, 1 1, 0.25 1, 0.25 0))"})
-    fine = layer(tmp_path / "fine.csv", {"a": "POINT (1 1)", "f": "POINT (0.2500001 0.5)",
+    fine = layer(tmp_path / "fine.csv", {"a": "POINT (1 1)", "f": "POINT (0.2500000000000001 0.5)",
                                          "n": "POINT (0.249999 0.5)"})
-    far = layer(tmp_path / "far.csv", {"a": "POINT (1 1)", "far": "POINT (2000000 0.000001)"})
+    far = layer(tmp_path / "far.csv", {"a": "POINT (1 1)", "far": "POINT (2000000 1e-12)"})
     exact, automatic, rounded, far_away, whole = runs([
         ours(quarter, zone, "touches"), ours(fine, zone, "touches"),
         ours(fine, zone, "touches", DECIMALS=2), ours(far, zone, "touches"),
@@ -692,18 +693,19 @@ def test_decimals(runs: Any, tmp_path: Path) -> None:
     assert "Join layer zone: features with coordinates rounded to 0 decimals: 1" in whole["log"]
     assert pairs(exact) == [("a", "z")] and "Decimals of the coordinates: 2" in exact["log"]
     assert pairs(automatic) == [("a", "z"), ("f", "z")]
-    assert "Base layer fine: features with coordinates rounded to 6 decimals: 1" in automatic["log"]
+    assert "Base layer fine: features with coordinates rounded to 15 decimals: 1" in (
+        automatic["log"])
     assert pairs(rounded) == [("a", "z"), ("f", "z"), ("n", "z")]
     assert "Base layer fine: features with coordinates rounded to 2 decimals: 2" in rounded["log"]
     assert pairs(far_away) == [("a", "z")]
-    assert "Base layer far: features with coordinates rounded to 5 decimals: 1" in far_away["log"]
+    assert "Base layer far: features with coordinates rounded to 11 decimals: 1" in far_away["log"]
 
 
 def test_decimals_of_any_geometry(runs: Any, tmp_path: Path) -> None:
     """Halves of a unit go away from zero, of points and of lines alike."""
     lines = layer(tmp_path / "lines.csv", {
         "east": "LINESTRING (0.125 -1, 0.125 1)", "west": "LINESTRING (-0.125 -1, -0.125 1)",
-        "slanted": "LINESTRING (-1.005 -2.000000001, 1.005 2)",
+        "slanted": "LINESTRING (-1.005 -2.0000000000000004, 1.005 2)",
         "short": "LINESTRING (9 9, 9.001 9)",
         "tiny": "LINESTRING (9 9, 9.001 9.001)"})
     points = layer(tmp_path / "points.csv", {
@@ -713,7 +715,7 @@ def test_decimals_of_any_geometry(runs: Any, tmp_path: Path) -> None:
         ours(points, lines, "intersects"), ours(points, lines, "intersects", DECIMALS=2),
         ours(points, lines, "intersects", DECIMALS=2, OTHERS=LEAVE_OUT, JOIN_LEFT_OUT="memory:")])
     assert pairs(automatic) == [("far", "short"), ("far", "tiny"), ("middle", "slanted")]
-    assert "Join layer lines: features with coordinates rounded to 6 decimals: 1" in (
+    assert "Join layer lines: features with coordinates rounded to 15 decimals: 1" in (
         automatic["log"])
     assert "lines, feature 5: not points, lines or polygons that rjoin reads, but a line that has" \
         " no length once rounded to 2 decimals" in stopped["error"]
@@ -919,8 +921,8 @@ def test_layers_of_other_reference_systems(runs: Any, tmp_path: Path) -> None:
     assert [answer["systems"]["OUTPUT"] for answer in answers[::4]] == ["EPSG:4326", "EPSG:32632"]
     assert ("The join layer is reprojected from EPSG:32632 - WGS 84 / UTM zone 32N to EPSG:4326 - "
             "WGS 84, that of the base layer") in answers[0]["log"]
-    assert "Decimals of the coordinates: 6" in answers[0]["log"]
-    assert "Decimals of the coordinates: 5" in answers[4]["log"]
+    assert "Decimals of the coordinates: 15" in answers[0]["log"]
+    assert "Decimals of the coordinates: 11" in answers[4]["log"]
 
 
 def test_what_cannot_be_reprojected(runs: Any, tmp_path: Path) -> None:
@@ -970,37 +972,39 @@ def square(x: float, y: float) -> str:
 def test_what_is_out_of_range(runs: Any, tmp_path: Path) -> None:
     """What the decimals of the run don't reach is left out like any other geometry; an envelope
     stays with its feature."""
-    squares = {"far": square(2000000, 1), "near": square(1, 1), "beyond": square(2e13, 1),
+    squares = {"far": square(2000000, 1), "near": square(1, 1), "beyond": square(2e19, 1),
                "further": square(3, 500000000)}
     far = layer(tmp_path / "far.csv", squares)
     mixed = layer(tmp_path / "mixed.csv", {**squares, "curve": OTHERS["curve"],
                                            "box": OTHERS["box"]})
-    fine = layer(tmp_path / "fine.csv", {"z": "POLYGON ((0 0, 2.000001 0, 0 2.000001, 0 0))"})
+    fine = layer(tmp_path / "fine.csv", {
+        "z": "POLYGON ((0 0, 2.000000000001 0, 0 2.000000000001, 0 0))"})
     out = {"INPUT_LEFT_OUT": "memory:", "OTHERS": LEAVE_OUT}
     limits = layer(tmp_path / "limits.csv", dict(list(squares.items())[:2]))
     (beyond, automatic, given, left_out, by_given, envelopes, partner, by_distance, counted,
      window) = runs([
         ours(far, fine, "overlaps"), ours(limits, fine, "touches"),
-        ours(limits, fine, "overlaps", DECIMALS=6), ours(far, fine, "touches", **out),
-        ours(far, fine, "overlaps", DECIMALS=6, **out),
+        ours(limits, fine, "overlaps", DECIMALS=12), ours(far, fine, "touches", **out),
+        ours(far, fine, "overlaps", DECIMALS=12, **out),
         ours(mixed, fine, "intersects", OTHERS=ENVELOPE, INPUT_LEFT_OUT="memory:"),
         ours(fine, far, "overlaps", OTHERS=LEAVE_OUT, DISCARD_NONMATCHING=False),
-        near(far, fine, 0.000001, DECIMALS=6, **out),
+        near(far, fine, 0.000001, DECIMALS=12, **out),
         {"algorithm": "rjoin:layerstatistics", "parameters": {
-            "INPUT": far, "OTHERS": LEAVE_OUT, "DECIMALS": 4}},
+            "INPUT": far, "OTHERS": LEAVE_OUT, "DECIMALS": 10}},
         {"algorithm": "rjoin:featuresinwindow", "parameters": {
-            "INPUT": far, "WINDOW": "0,9,0,9", "OTHERS": LEAVE_OUT, "DECIMALS": 4,
+            "INPUT": far, "WINDOW": "0,9,0,9", "OTHERS": LEAVE_OUT, "DECIMALS": 10,
             "OUTPUT": "memory:", "LEFT_OUT": "memory:"}}])
-    assert beyond["error"] == ("Base layer far, feature 3: coordinate 20000000000000.0 is out of "
-                               "range: the limit is 1,000,000,000,000")
+    assert beyond["error"] == ("Base layer far, feature 3: coordinate 2e+19 is out of range: the "
+                               "limit is 1,000,000,000,000,000,000")
     assert given["error"] == (
-        "Base layer limits, feature 1: coordinate 2000000.0 is out of range with 6 decimals: at "
-        "most 5 fit")
+        "Base layer limits, feature 1: coordinate 2000000.0 is out of range with 12 decimals: at "
+        "most 11 fit")
     assert pairs(automatic) == [("near", "z")]
-    assert "Join layer fine: features with coordinates rounded to 5 decimals: 1" in automatic["log"]
+    assert "Join layer fine: features with coordinates rounded to 11 decimals: 1" in (
+        automatic["log"])
     reasons = {"beyond": "a coordinate out of range",
-               "far": "a coordinate out of range with 6 decimals",
-               "further": "a coordinate out of range with 6 decimals"}
+               "far": "a coordinate out of range with 12 decimals",
+               "further": "a coordinate out of range with 12 decimals"}
     for answer in (left_out, by_given, by_distance, envelopes):
         assert {(row["id"], row["id_2"]) for row in answer["rows"]["OUTPUT"]} >= {("near", "z")}
         gone = {row["id"]: row["reason"] for row in answer["rows"]["INPUT_LEFT_OUT"]}
@@ -1017,14 +1021,15 @@ def test_what_is_out_of_range(runs: Any, tmp_path: Path) -> None:
 def test_coordinates_below_zero(runs: Any, tmp_path: Path) -> None:
     """Their size counts without the sign, also where no other is out of range."""
     below = layer(tmp_path / "below.csv", {"below": square(1, -3000000), "near": square(1, 1)})
-    fine = layer(tmp_path / "fine.csv", {"z": "POLYGON ((0 0, 2.000001 0, 0 2.000001, 0 0))"})
+    fine = layer(tmp_path / "fine.csv", {
+        "z": "POLYGON ((0 0, 2.000000000001 0, 0 2.000000000001, 0 0))"})
     automatic, stopped, left_out = runs([
-        ours(below, fine, "touches"), ours(below, fine, "overlaps", DECIMALS=6),
-        ours(below, fine, "overlaps", DECIMALS=6, OTHERS=LEAVE_OUT, INPUT_LEFT_OUT="memory:")])
+        ours(below, fine, "touches"), ours(below, fine, "overlaps", DECIMALS=12),
+        ours(below, fine, "overlaps", DECIMALS=12, OTHERS=LEAVE_OUT, INPUT_LEFT_OUT="memory:")])
     assert pairs(automatic) == pairs(left_out) == [("near", "z")]
-    assert "Decimals of the coordinates: 5" in automatic["log"]
+    assert "Decimals of the coordinates: 11" in automatic["log"]
     assert stopped["error"] == ("Base layer below, feature 1: coordinate -3000000.0 is out of range"
-                                " with 6 decimals: at most 5 fit")
+                                " with 12 decimals: at most 11 fit")
     assert [row["id"] for row in left_out["rows"]["INPUT_LEFT_OUT"]] == ["below"]
 
 
@@ -1094,7 +1099,7 @@ def test_each_side_of_a_window_between_two_units(runs: Any, tmp_path: Path, wind
 
 def test_window_over_any_geometry(runs: Any) -> None:
     """Beside QGIS's own extraction; the last window has more decimals than rjoin reads."""
-    windows = ("0,400,-100,300", "157.25,158,39,39.5", "300.0000000001,700,300,500")
+    windows = ("0,400,-100,300", "157.25,158,39,39.5", "0.30000000000000004,700,300,500")
     answers = runs([request for window in windows for request in (
         {"algorithm": "rjoin:featuresinwindow", "parameters": {
             "INPUT": PARCELS, "WINDOW": window, "OUTPUT": "memory:"}},
@@ -1103,7 +1108,7 @@ def test_window_over_any_geometry(runs: Any) -> None:
     for one, other in zip(answers[::2], answers[1::2]):
         assert one["error"] is None and one["rows"]["OUTPUT"] == other["rows"]["OUTPUT"]
         assert one["rows"]["OUTPUT"]
-    told = [any("The window is rounded to 6 decimals" in line for line in answer["log"])
+    told = [any("The window is rounded to 1" in line for line in answer["log"])
             for answer in answers[::2]]
     assert told == [False, False, True]
 

@@ -21,6 +21,11 @@ def test_the_search_for_the_program_is_the_same_everywhere(folder: str) -> None:
     assert (HERE / folder / "found.py").read_bytes() == FOUND.read_bytes()
 
 
+def test_the_shortest_decimals_are_the_same_in_qgis() -> None:
+    own = HERE / "qgis/rjoin_processing/shortest.py"
+    assert own.read_bytes() == (FOUND.parent / "shortest.py").read_bytes()
+
+
 def test_all_parts_have_the_same_version() -> None:
     version = re.search('^VERSION = "(.*)"$', FOUND.read_text(encoding="utf-8"), re.MULTILINE)
     assert version

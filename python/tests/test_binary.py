@@ -31,7 +31,7 @@ def test_texts_in_binary_have_the_decimals_of_their_numbers(order: str, tmp_path
     (tmp_path / "layer.csv").write_text(f"id,wkt\na,{text}\n")
     for layer in ([text], str(tmp_path / "layer.csv")):
         assert rjoin.stats(layer).lines == 1
-        assert rjoin.stats(layer, decimals="auto").decimals == 6
+        assert rjoin.stats(layer, decimals="auto").decimals == 15
         assert len(rjoin.pairs(layer, ["LINESTRING (0.125 0.5, 3 3)"], "equals")) == 1
         assert len(rjoin.pairs(["POINT (3 3)"], layer, "touches", decimals="auto")) == 1
 
@@ -39,7 +39,7 @@ def test_texts_in_binary_have_the_decimals_of_their_numbers(order: str, tmp_path
 @pytest.mark.parametrize("number, decimals, told", (
     (5e-324, None, "has 324 decimals"), (5e-324, 6, None), (1e300, None, "above 1000000000000"),
     (1e300, 0, "above 1000000000000"), (-0.0, None, None), (0.1 + 0.2, None, "has 17 decimals"),
-    (0.1 + 0.2, 6, None), (float("nan"), 6, "not finite"), (float("inf"), 6, "not finite")))
+    (0.1 + 0.2, 15, None), (float("nan"), 6, "not finite"), (float("inf"), 6, "not finite")))
 def test_numbers_of_texts_in_binary(number: float, decimals: Any, told: Any) -> None:
     """Each is the one that Shapely reads."""
     texts = [binary((0, 0), (1, 1)), binary((0, 0), (number, 3), (4, 9))]
@@ -62,8 +62,8 @@ def test_heights_in_binary_are_ignored_and_empty_points_left_out() -> None:
 
 @pytest.mark.parametrize("number, decimals, told", (
     (5e-324, None, "has 324 decimals"), (5e-324, 6, None), (1e300, None, "above 1000000000000"),
-    (1e300, 0, "above 1000000000000"), (1e12, None, None), (1e12, 1, "above 1000000000000"),
-    (-1e12, 0, None), (1e12 + 0.4, 0, None), (1e12 + 0.6, 0, "above 1000000000000"),
+    (1e300, 0, "above 1000000000000"), (1e12, None, None), (1e12, 1, None), (1e18, None, None),
+    (-1e18, 0, None), (1e18, 1, "above 1000000000000"), (1e18 + 128, 0, "above 1000000000000"),
     (float("nan"), 6, "not finite"), (float("inf"), 6, "not finite")))
 def test_numbers_at_the_ends_of_the_range(number: float, decimals: Any, told: Any) -> None:
     layer = [shapely_geometry.LineString([(0, 0), (1, 1)]),

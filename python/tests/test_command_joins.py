@@ -203,14 +203,14 @@ def test_texts_of_a_table_are_its_geometries(tmp_path: Path, field: str) -> None
 def test_tables_that_say_no_geometry_are_refused(layers: Tuple[Path, Path], capsys: Any) -> None:
     areas, points = layers
     table = points.with_name("wrong.csv")
-    table.write_text("lon,lat,shape,fine\n1,1,POINT (1 1),1\nx,2,POINT (2),1.12345678\n")
+    table.write_text("lon,lat,shape,fine\n1,1,POINT (1 1),1\nx,2,POINT (2),0.1234567890123456\n")
     output = points.with_name("out.csv")
     for files, words, status, told in (
             ((areas, table), ("--xy", "lon,lat"), 1, "right: row 2 (feature 1): lon is 'x', which "
                                                      "is no number"),
             ((areas, table), ("--geometry-column", "shape"), 1,
              "right: row 2 (feature 1): not a geometry text"),
-            ((table, areas), ("--xy", "fine,lat"), 1, "row 2 (feature 1): coordinate 1.12345678 "),
+            ((table, areas), ("--xy", "fine,lat"), 1, "row 2 (feature 1): coordinate 0.12345678"),
             ((areas, table), ("--xy", "lon,late"), 2, "right has no field 'late'; it has lon, lat"),
             ((areas, areas), ("--xy", "lon,lat"), 2, "are for tables"),
             ((points, points.with_name("none.csv")), ("--xy", "lon,lat"), 1, "is not there")):
@@ -245,7 +245,7 @@ def test_questions_that_make_no_sense_are_refused(layers: Tuple[Path, Path], cap
             (("--relation", "dwithin", "--distance", "-1"), "--distance must be a finite number"),
             (("--relation", "dwithin", "--distance", "inf"), "--distance must be a finite number"),
             (("--nearest", "1", "--distance", "nan"), "--distance must be a finite number"),
-            (("--relation", "dwithin", "--distance", "0.1234567"), "has 7 decimals"),
+            (("--relation", "dwithin", "--distance", "0.1234567890123456"), "has 16 dec"),
             (("--nearest", "0"), "--nearest must be 1 to 4294967295, not 0"),
             (("--nearest", "4294967296"), "--nearest must be 1 to 4294967295"),
             ((*within, "--incomplete", "mark"), "--incomplete mark is for --how left"),

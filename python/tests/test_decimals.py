@@ -10,8 +10,9 @@ import numpy as np
 import pytest
 
 import rjoin
-from rjoin import decimals
+from rjoin import decimals, shortest
 from rjoin.command import main as run
+from rjoin.limits import ANY
 
 geopandas = pytest.importorskip("geopandas")
 wkt = pytest.importorskip("shapely.wkt")
@@ -42,11 +43,48 @@ def numbers(seed: int, count: int) -> List[str]:
     return [text for text in some if abs(float(text)) <= 900_000]
 
 
-@pytest.mark.parametrize("places", range(7))
+@pytest.mark.parametrize("places", range(16))
 def test_columns_round_as_decimal_fractions_do(places: int) -> None:
-    texts = numbers(places, 3000)
+    texts = [text for text in numbers(places, 3000) if abs(float(text)) <= ANY.greatest(places)]
     rounded = decimals.rounded(np.array(texts, np.float64).reshape(-1, 1), places)
     assert rounded.ravel().tolist() == [units_of(repr(float(text)), places) for text in texts]
+
+
+def doubles(seed: int, count: int) -> List[float]:
+    """Doubles of all sizes, many of which have as many digits as one may have."""
+    random = np.random.default_rng(seed)
+    powers = 2.0 ** np.arange(-60, 50)
+    digits = random.integers(-10 ** 17, 10 ** 17, count) / 10.0 ** random.integers(0, 16, count)
+    some = [random.uniform(-1000, 1000, count), 10.0 ** random.uniform(-20, 17, count), digits,
+            powers, np.nextafter(powers, 0), -np.nextafter(powers, np.inf),
+            [0.0, -0.0, 5e-324, 1e-300, 0.1 + 0.2, 5812393.255999999, 9007199254740991.0]]
+    return [number for part in some for number in np.asarray(part).tolist()]
+
+
+@pytest.mark.parametrize("places", range(16))
+def test_columns_have_the_decimals_that_are_printed(places: int) -> None:
+    """A double has the shortest decimal that reads as it."""
+    given = [number for number in doubles(places, 500) if abs(number) <= ANY.greatest(places)]
+    units, _, exact = shortest.in_units(np.array(given), places)
+    scaled = [Decimal(number if number.is_integer() else repr(number)).scaleb(places)
+              for number in given]
+    assert exact.tolist() == [number == number.to_integral_value() for number in scaled]
+    assert decimals.is_exact(np.array(given), places).tolist() == exact.tolist()
+    assert units[exact].tolist() == [int(number) for number in np.array(scaled)[exact]]
+    assert decimals.has_more(np.array([given]), places) == (not exact.all())
+
+
+@pytest.mark.parametrize("number", (0.123456789012345, -179.999999999999, 5812393.255999999,
+                                    999.999999999999, 2.0 ** -15, 1e-15, 1e17, 1234567.0000001))
+def test_numbers_of_many_decimals_are_read_as_they_are(number: float, tmp_path: Path) -> None:
+    """Boxes and others, as geometries, as texts, as binary and from a file, beside their decimals.
+    """
+    text = format(Decimal(repr(number)), "f")
+    for form in ("POINT ({} 3)", "LINESTRING (1 3, {} 4)"):
+        one = wkt.loads(form.format(number))
+        (tmp_path / "layer.csv").write_text(f'id,wkt\na,"{form.format(text)}"\n')
+        for layer in ([one], [form.format(text)], [one.wkb_hex], tmp_path / "layer.csv"):
+            assert len(rjoin.pairs(layer, [form.format(text)], "equals")) == 1
 
 
 @pytest.mark.parametrize("places", (0, 1, 2, 6))
@@ -152,23 +190,32 @@ def auto(*texts: str) -> Tuple[int, ...]:
     return tuple(sorted(set(found)))
 
 
-def test_auto_takes_six_decimals_or_as_many_as_the_range_allows() -> None:
-    assert auto("POINT (0.12345678 -1)", "LINESTRING (0 0, 12.0123456789012345 7)") == (6,)
-    assert auto("POINT (1000000 -1000000.0)", "POINT (0.1234567 1)") == (6,)
-    assert auto("POINT (-1000000.1 1)") == (5,)
-    assert auto("POINT (1.12345678 5812345.25)", "POINT (1 2)") == (5,)
-    assert auto("LINESTRING (0 0, 12345678.123456789 1)") == (4,)
-    assert auto("POINT (1e9 0.5)") == (3,)
-    assert auto("POINT (-999999999999.75 1)") == (0,)
+def test_auto_takes_fifteen_decimals_or_as_many_as_the_range_allows() -> None:
+    assert auto("POINT (0.12345678 -1)", "LINESTRING (0 0, 12.0123456789012345 7)") == (15,)
+    assert auto("POINT (1000 -1000.0)", "POINT (0.1234567 1)") == (15,)
+    assert auto("POINT (-1000.1234567 1)") == (14,)
+    assert auto("POINT (1.12345678 5812345.25)", "POINT (1 2)") == (11,)
+    assert auto("LINESTRING (0 0, 12345678.123456789 1)") == (10,)
+    assert auto("LINESTRING (0 0, 1e9 0.5)") == (9,)
+    assert auto("POINT (-999999999999999999 0.5)") == (0,)
     with pytest.raises(rjoin.InputError, match="row 2 .*(above|out of range)"):
-        auto("POINT (0 0)", "POINT (1e13 1)")
+        auto("POINT (0 0)", "POINT (1e19 1)")
+
+
+def test_auto_takes_six_decimals_of_boxes_that_have_no_more() -> None:
+    """Or as many as their range allows."""
+    for text, number in (("POINT (0.123456 1)", 6), ("POINT (-1000000.1 1)", 5),
+                         ("POINT (1000000000 0.5)", 3), ("POINT (0.1234567 1)", 15),
+                         ("POINT (1000000.000001 0.5)", 11)):
+        for layer in ([text], geopandas.GeoSeries.from_wkt([text])):
+            assert rjoin.stats(layer, decimals="auto").decimals == number
     assert "decimals" not in rjoin.pairs(["POINT (0 0)"], ["POINT (0 0)"]).attrs
 
 
 @pytest.mark.parametrize("text, count", (
-    ("POINT (0.1234567 2)", 7), ("POINT (1 0.30000000000000004)", 17), ("POINT (1e-7 1)", 7),
-    ("LINESTRING (1 1, 2 2.12345678)", 8),
-    ("MULTIPOLYGON (((0 0, 1 0, 0 1, 0 0)), ((5 5, 9 5, 5 9.000000001, 5 5)))", 9)))
+    ("POINT (0.1234567890123456 2)", 16), ("POINT (1 0.30000000000000004)", 17),
+    ("POINT (1e-17 1)", 17), ("LINESTRING (1 1, 2 0.0123456789012345)", 16),
+    ("MULTIPOLYGON (((0 0, 1 0, 0 1, 0 0)), ((5 5, 9 5, 5 0.1234567890123456, 5 5)))", 16)))
 def test_too_many_decimals_name_the_feature_the_number_and_the_argument(text: str,
                                                                         count: int) -> None:
     layer = geopandas.GeoSeries.from_wkt(["POINT (1.5 2)", "LINESTRING (0 0, 3 7)", text, text],
@@ -177,7 +224,7 @@ def test_too_many_decimals_name_the_feature_the_number_and_the_argument(text: st
     given[:] = ["POINT (1.5 2)", "LINESTRING (0 0, 3 7)", text, text]
     for rows in (layer, given):
         with pytest.raises(rjoin.InputError, match=f"row 3 .feature 'c'.*has {count} decimals, "
-                                                   "and 6 are the most: decimals=6 rounds it"):
+                                                   "and 15 are the most: decimals=15 rounds"):
             rjoin.stats(rows)
         assert rjoin.stats(rows, decimals=6).features == 4
         with pytest.raises(rjoin.InputError, match="row 1|row 3"):
@@ -188,18 +235,18 @@ def test_too_many_decimals_name_the_feature_the_number_and_the_argument(text: st
 
 
 def test_numbers_out_of_range_and_wrong_arguments_are_refused() -> None:
-    for number, places in (("1000000.0000005", 6), ("-1000000000000.5", 0), ("1e300", 3)):
+    for number, places in (("1000.0000000000002", 15), ("-1000000000000000512", 0), ("1e300", 3)):
         for layer in (geopandas.GeoSeries.from_wkt(["POINT (1 1)", f"POINT (0 {number})"]),
                       ["POINT (1 1)", f"POINT (0 {number})"]):
             with pytest.raises(rjoin.InputError, match="row 2 .*(above|out of range)"):
                 rjoin.stats(layer, decimals=places)
-    for number, places in (("1000000.0000004", 6), ("-1000000000000.4", 0)):
+    for number, places in (("999.9999999999999", 15), ("-1000000000000000000", 0)):
         for layer in (geopandas.GeoSeries.from_wkt([f"POINT (0 {number})"]),
                       [f"POINT (0 {number})"]):
             assert rjoin.stats(layer, decimals=places).points == 1
-    wrong: Tuple[Any, ...] = (7, -1, 1.5, "2", "Auto", True)
+    wrong: Tuple[Any, ...] = (16, -1, 1.5, "2", "Auto", True)
     for value in wrong:
-        with pytest.raises(rjoin.ArgumentError, match="decimals must be 0 to 6 or 'auto' or None"):
+        with pytest.raises(rjoin.ArgumentError, match="decimals must be 0 to 15 or 'auto' or None"):
             rjoin.stats(["POINT (1 1)"], decimals=value)
     with pytest.raises(rjoin.ArgumentError, match="exclude each other"):
         rjoin.stats(["POINT (1 1)"], decimals=2, scale=2)
@@ -244,25 +291,29 @@ def test_texts_that_shapely_reads_are_rounded_too(tmp_path: Path) -> None:
 
 
 def test_the_command_rounds_and_takes_a_rule_for_rings(tmp_path: Path, capsys: Any) -> None:
-    bow_tie = shapely_geometry.Polygon([(0, 0), (4.0000001, 4), (4, 0), (0, 4)])
+    bow_tie = shapely_geometry.Polygon([(0, 0), (4.000001, 4), (4, 0), (0, 4)])
     areas = geopandas.GeoDataFrame(geometry=[bow_tie])
     areas.to_file(tmp_path / "areas.gpkg", driver="GPKG")
-    (tmp_path / "points.csv").write_text("id,wkt\na,POINT (1.00000001 2)\nb,POINT (2 1)\n")
+    (tmp_path / "points.csv").write_text(
+        "id,wkt\na,POINT (1.1234567890123457 2)\nb,POINT (2 1)\n")
     words = [f"{tmp_path}/points.csv", f"{tmp_path}/areas.gpkg", "--relation", "within", "-o"]
     assert run([*words, f"{tmp_path}/none.csv"]) == 1
-    assert "left: row 1: coordinate 1.00000001 has 8 decimals" in capsys.readouterr().err.replace(
-        " (feature 'a')", "")
+    assert "left: row 1: coordinate 1.1234567890123457 has 16 dec" in (
+        capsys.readouterr().err.replace(" (feature 'a')", ""))
     for value, lines in (("3", 1), ("auto", 2)):
         output = tmp_path / f"{value}.csv"
         assert run([*words, str(output), "--decimals", value]) == 0
         assert output.read_text() == "left,right,matrix\na,0,0FFFFF212\n"
         told = capsys.readouterr().err.splitlines()
         assert len(told) == lines and "even-odd" in told[0]
-        assert lines == 1 or told[1] == "rjoin: coordinates are rounded to 6 decimals"
+        assert lines == 1 or told[1] == "rjoin: coordinates are rounded to 15 decimals"
+    (tmp_path / "points.csv").write_text("id,wkt\na,POINT (1.123456789012345 2)\nb,POINT (2 1)\n")
+    assert run([*words, f"{tmp_path}/auto.csv", "--overwrite", "--decimals", "auto"]) == 0
+    assert "rounded" not in capsys.readouterr().err
     output = tmp_path / "none.csv"
     for more, status, line in (
             (("--decimals", "3", "--rings", "proper"), 1, "rings cross or overlap"),
-            (("--decimals", "7"), 2, "decimals must be"),
+            (("--decimals", "16"), 2, "decimals must be"),
             (("--decimals", "3", "--scale", "3"), 2, "exclude each other")):
         assert run([*words, str(output), *more]) == status and not output.exists()
         assert line in capsys.readouterr().err

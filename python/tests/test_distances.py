@@ -14,6 +14,7 @@ from test_shapes import mixture
 
 import rjoin
 from rjoin import joining
+from rjoin.limits import BOXES
 
 geopandas = pytest.importorskip("geopandas")
 affinity = pytest.importorskip("shapely.affinity")
@@ -186,7 +187,8 @@ def test_distances_have_as_many_decimals_as_the_range_allows(monkeypatch: Any) -
     assert far(1e7, 2e7) == round(hypot(1e7, 2e7), 4)
     assert far(1e9, 2e9) == round(hypot(1e9, 2e9), 2)
     assert far(1e-6, 2e-6) == 2e-6
-    monkeypatch.setattr(joining, "MOST_BYTES", len("id,wkt\n0,POINT(100 200)\n"))
+    size = len("id,wkt\n0,POINT(100 200)\n")
+    monkeypatch.setattr(joining, "BOXES", BOXES._replace(bytes=size))
     assert far(1, 2) == round(hypot(1, 2), 2)
 
 
@@ -199,7 +201,7 @@ def test_numbers_of_distances_that_cannot_be_used_are_refused() -> None:
                         ([1, 2, 3, 4, "five"], "values that are no numbers"),
                         ([1, 2, -3, 4, 5], r"not -3.0 \(row 3\)"), ("far", "no column of the left"),
                         ([1, 2, 3, 4, float("nan")], r"not nan \(row 5\)"), ("name", "no numbers"),
-                        ([1, 2, 3, 4, 0.1234567], "a number|distance 0.1234567 has 7 decimals")):
+                        ([1, 2, 3, 4, 0.1 + 0.2], "a number|distance 0.3.*4 has 17 decimals")):
         with pytest.raises(rjoin.ArgumentError, match=f"^distance .*{told}|^{told}"):
             within(left, right, distance=value)
     for value in (-1, "3", [1]):
@@ -214,7 +216,7 @@ def test_numbers_of_distances_that_cannot_be_used_are_refused() -> None:
     with pytest.raises(rjoin.ArgumentError, match="'dwithin' has no letters"):
         within(left, right, matrix=True)
     with pytest.raises(rjoin.ArgumentError, match="a distance is above 10+ units"):
-        within(left, right, distance=10 ** 13)
+        within(left, right, distance=10 ** 19)
     with pytest.raises(rjoin.ArgumentError, match="'far' already"):
         rjoin.sjoin_nearest(left.assign(far=1), right, distance_col="far")
     unlimited = rjoin.sjoin_nearest(left, right, max_distance=float("inf"))

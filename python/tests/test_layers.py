@@ -11,7 +11,8 @@ import pytest
 from town import TOWN, rows_of
 
 import rjoin
-from rjoin import sheet
+from rjoin import sources
+from rjoin.limits import ANY
 
 geopandas = pytest.importorskip("geopandas")
 wkt = pytest.importorskip("shapely.wkt")
@@ -195,8 +196,8 @@ def test_texts_are_read_alike_whatever_happens_to_others(tmp_path: Path, rules: 
                 rjoin.stats(layer, **rules)
         with pytest.raises(rjoin.InputError, match="first: not a geometry text"):
             rjoin.relate(text, "POINT (1 2)")
-    for text in ("POINT (1.0000000000000000055 2)", "POINT Z (1.1234567 2 3)", "POINT (1e-7 2)",
-                 "POINT (1.000000000000000000000000000000001E0 2)"):
+    for text in ("POINT (1.0000000000000000055 2)", "POINT Z (0.1234567890123456 2 3)",
+                 "POINT (1e-16 2)", "POINT (1.000000000000000000000000000000001E0 2)"):
         with pytest.raises(rjoin.InputError, match="row 2 .*decimals"):
             rjoin.stats(["POINT (1 2)", text], **rules)
     assert rjoin.stats(["POINT (1.1234567e3 2)", "POINT (0.25 1)"], **rules).points == 2
@@ -308,7 +309,7 @@ def test_the_scale_is_the_fewest_decimals_that_write_each_number() -> None:
                     rjoin.stats(layer, scale=most - 1)
 
 
-@pytest.mark.parametrize("number", ("0.1234567", "0.30000000000000004", "1e-7"))
+@pytest.mark.parametrize("number", ("0.1234567890123456", "0.30000000000000004", "1e-16"))
 def test_a_number_with_too_many_decimals_names_its_feature(number: str) -> None:
     layer = series(["POINT (1 2)", "POINT (1.5 2)", f"POINT ({float(number)!r} 2)"])
     with pytest.raises(rjoin.InputError, match=r"row 3 \(feature 'c'\).*decimals"):
@@ -318,16 +319,18 @@ def test_a_number_with_too_many_decimals_names_its_feature(number: str) -> None:
 def test_texts_with_too_many_decimals_name_their_row() -> None:
     assert rjoin.stats(["POINT (1.5000000000 2.)", "POINT (3 4)"], scale=1).points == 2
     assert rjoin.stats(["POINT (1.5000000000 2.)", "POINT (3 4)"]).points == 2
+    assert rjoin.stats(["POINT (1.5 2)", "POINT (3.123456789012345 4)"]).points == 2
     with pytest.raises(rjoin.InputError, match="row 2 .*decimals"):
-        rjoin.stats(["POINT (1.5 2)", "POINT (3.1234567 4)"])
+        rjoin.stats(["POINT (1.5 2)", "POINT (3.1234567890123456 4)"])
 
 
 def test_numbers_out_of_range_name_their_feature() -> None:
-    layer = series(["POINT (0.123456 2)", "POINT (1000000.5 2)"])
+    layer = series(["POINT (0.123456789012345 2)", "POINT (1000.5 2)"])
     with pytest.raises(rjoin.InputError, match=r"row 2 \(feature 'b'\).*above"):
         rjoin.stats(layer)
-    assert rjoin.stats(series(["POINT (-1000000000000 1000000000000)"])).points == 1
-    for number in ("1000000000001", "1e18", "-1.7e308"):
+    for greatest in (10 ** 12, 10 ** 18):
+        assert rjoin.stats(series([f"POINT (-{greatest} {greatest})"])).points == 1
+    for number in ("1000000000000000128", "1e19", "-1.7e308"):
         for first in ("POINT (1 0)", "POINT (0.25 0)"):
             with pytest.raises(rjoin.InputError, match="row 2 .*above"):
                 rjoin.stats(series([first, f"POINT ({number} 0)"]))
@@ -408,15 +411,9 @@ def test_a_layer_whose_file_the_program_would_not_read_is_refused(monkeypatch: A
     """Before it is written; the last one that is read has as many bytes as a file may have."""
     layer = series(["POINT (10 200)"] * 3)
     size = len("id,wkt\n") + 3 * len("0,POINT(10 200)\n")
-    monkeypatch.setattr(sheet, "MOST_BYTES", size)
+    monkeypatch.setattr(sources, "ANY", ANY._replace(bytes=size))
     assert rjoin.stats(layer).points == 3
-    monkeypatch.setattr(sheet, "MOST_BYTES", size - 1)
+    monkeypatch.setattr(sources, "ANY", ANY._replace(bytes=size - 1))
     with pytest.raises(rjoin.InputError, match=f"^layer: 3 features .* take {size} bytes, and the "
                                                f"program reads {size - 1}"):
         rjoin.stats(layer)
-
-
-def test_a_million_features_are_the_most() -> None:
-    with pytest.raises(rjoin.InputError, match="layer is full") as caught:
-        rjoin.stats(["POINT (1 1)"] * 1_000_001)
-    assert caught.value.row == 1_000_001

@@ -105,6 +105,14 @@ def test_a_hint_stays_with_its_fault() -> None:
     assert program.fault_line(text) == "rjoin: no; did you mean b?"
 
 
+def test_the_reason_of_a_fault_has_no_word_of_options() -> None:
+    """The package itself reads a layer as any geometry where it is none of boxes."""
+    text = "rjoin: left: row 3: not a geometry text\n--geometry any reads this row\n"
+    fault = program.error_of("rjoin", 1, text)
+    assert isinstance(fault, program.InputFault)
+    assert (fault.row, fault.reason) == (3, "not a geometry text")
+
+
 def test_the_version_is_that_of_the_program_and_is_asked_once(monkeypatch: Any, real: str,
                                                               tmp_path: Path) -> None:
     told = subprocess.run([real, "--version"], capture_output=True, text=True, check=True).stdout
@@ -255,12 +263,12 @@ def test_faults_have_side_row_and_feature(tmp_path: Path) -> None:
         rjoin.stats(wrong)
     with pytest.raises(rjoin.InputError, match="window: not a geometry text"):
         rjoin.window(TOWN / "parcels.csv", "POINT 1 2")
-    for place in ("POINT (0.1234567 2)", "LINESTRING (1 1, 1 1)"):
+    for place in ("POINT (0.1234567890123456 2)", "LINESTRING (1 1, 1 1)"):
         with pytest.raises(rjoin.InputError, match="^window: [^(]*$") as caught:
             rjoin.window(TOWN / "parcels.csv", place)
         assert (caught.value.row, caught.value.feature) == (None, None)
     with pytest.raises(rjoin.InputError, match="first: .*decimals"):
-        rjoin.relate("POINT (0.1234567 2)", "POINT (0 0)")
+        rjoin.relate("POINT (0.1234567890123456 2)", "POINT (0 0)")
     for words in ("--help", "-h", "--", "-"):
         with pytest.raises(rjoin.InputError, match="^window: not a geometry text"):
             rjoin.window(TOWN / "parcels.csv", words)

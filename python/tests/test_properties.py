@@ -245,7 +245,7 @@ CALLS = ("sjoin", "pairs", "window", "stats", "relate", "draw")
 @pytest.mark.parametrize("name", CALLS)
 def test_each_call_takes_the_scale_that_is_given(name: str) -> None:
     fine, far = ["POINT (0.25 -0.5)"], ["POINT (2000000 1)"]
-    for layers, scale in (((fine, fine), 1), ((far, far), 6)):
+    for layers, scale in (((fine, fine), 1), ((far, far), 15)):
         calls_of(layers)[name]()
         with pytest.raises(rjoin.InputError, match="out of range|decimals|above"):
             calls_of(layers)[name](scale=scale)

@@ -258,9 +258,9 @@ def test_faults_have_the_row_behind_those_that_are_left_out() -> None:
     """Those that the program finds, and numbers, of boxes and of any geometry."""
     faults: Tuple[Tuple[str, Dict[str, Any], str], ...] = (
         (BOW_TIE, {"rings": "proper"}, "rings cross"),
-        ("POINT (0.12345678 1)", {}, "has 8 decimals"),
+        ("POINT (0.1234567812345678 1)", {}, "has 16 decimals"),
         ("POINT (0.25 1)", {"scale": 1}, "more than 1 decimals"),
-        ("POINT (1e13 1)", {}, "is above"))
+        ("POINT (1e19 1)", {}, "is above"))
     for before in ((COLLECTION, "POINT (1 1)"), (COLLECTION, "LINESTRING (0 0, 3 3)")):
         for text, rules, told in faults:
             layer = geopandas.GeoSeries([wkt.loads(one) for one in (*before, text)],

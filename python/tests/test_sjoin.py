@@ -329,7 +329,7 @@ def test_another_reference_system_is_transformed_where_that_is_asked_for(town: A
         assert ours.crs == (right.crs if name == "right" else left.crs)
         if name == "right":
             assert ours.geometry.tolist() == right.geometry.loc[ours.index].tolist()
-        assert ours.attrs["decimals"] == other.attrs["decimals"] == 6
+        assert ours.attrs["decimals"] == other.attrs["decimals"] == 15
     right.to_file(tmp_path / "zones.gpkg", driver="GPKG")
     for layer in (right, right.geometry, tmp_path / "zones.gpkg"):
         pairs = rjoin.pairs(left, layer, "within", to_crs=True, decimals=3)
@@ -360,7 +360,7 @@ def test_a_mask_that_disjoint_features_fit_is_refused(town: Any) -> None:
 def test_wrong_arguments_are_refused_before_anything_is_read(town: Any) -> None:
     left, right = town["parcels"], town["roads"]
     wrong: Tuple[Tuple[str, Any], ...] = (
-        ("scale", 7), ("scale", -1), ("scale", 1.5), ("scale", "2"), ("workers", 0),
+        ("scale", 16), ("scale", -1), ("scale", 1.5), ("scale", "2"), ("workers", 0),
         ("workers", 17), ("workers", True), ("workers", "AUTO"), ("workers", "2"),
         ("how", "outer"), ("other", "box"), ("missing", "envelope"))
     for name, value in wrong:

@@ -71,7 +71,7 @@ def test_commands_of_one_layer(tools: Tools, command: str) -> None:
     [
         ([("n3", "POINT (1 1)")], "row 63: id is already there (row 3 of {})"),
         ([("bad", "POINT (1")], "row 63: not a geometry text (row 3 of {})"),
-        (None, "wrong header ({})"),
+        (None, "wrong header ({})\nthe first line begins with 'x,y'"),
     ],
 )
 def test_a_fault_names_its_file(

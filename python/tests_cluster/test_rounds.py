@@ -111,8 +111,9 @@ def test_the_first_distance() -> None:
     """Of points in a grid of pitch 100, of which each tenth is in the sample, about two pitches."""
     grid = np.array([[x, y, x, y] for x in range(0, 9000, 100) for y in range(0, 9000, 100)])
     left, right = Sample(grid + 50, 1.0), Sample(grid[::10], 10.0)
-    assert 70 <= rounds.first_distance(left, right, 1) <= 1000
-    assert rounds.first_distance(left, right, 16) == pytest.approx(
-        4 * rounds.first_distance(left, right, 1), abs=4
+    assert 70 <= rounds.first_distance(left, right, 1, 10**12) <= 1000
+    assert rounds.first_distance(left, right, 1, 50) == 50
+    assert rounds.first_distance(left, right, 16, 10**12) == pytest.approx(
+        4 * rounds.first_distance(left, right, 1, 10**12), abs=4
     )
-    assert rounds.first_distance(Sample(grid[:0], 1.0), right, 1) == 1
+    assert rounds.first_distance(Sample(grid[:0], 1.0), right, 1, 10**12) == 1

@@ -57,9 +57,9 @@ polygons stop the run; or are left out; or, without filtering, are read by the e
 point is inside if a ray from it crosses the rings an odd number of times.</p>
 <h3>Decimals</h3>
 <p>rjoin computes with decimal numbers. Unless the number of decimals is given, it is the \
-fewest, 0 to 6, that write every coordinate exactly; where 6 don't, it is 6, or as many as the \
-size of the coordinates allows. Coordinates with more are rounded, half a unit away from zero, and \
-the log says how many features changed.</p>
+fewest, 0 to 15, that write every coordinate exactly; where 15 don't, it is 15, or as many as \
+the size of the coordinates allows. Coordinates with more are rounded, half a unit away from zero, \
+and the log says how many features changed.</p>
 """
 
 
@@ -84,7 +84,7 @@ class RjoinAlgorithm(QgsProcessingAlgorithm):
         self.addParameter(QgsProcessingParameterNumber(
             DECIMALS, "Decimals to round coordinates to (all that the data has, or as many as fit, "
             "unless given)",
-            QgsProcessingParameterNumber.Integer, None, True, 0, units.MOST_DECIMALS))
+            QgsProcessingParameterNumber.Integer, None, True, 0, units.ANY.decimals))
 
     def add_workers(self) -> None:
         """Adds the number of threads that join."""

@@ -17,7 +17,7 @@ from qgis.PyQt.QtCore import QVariant
 from . import decimals as units
 from . import program
 from .answers import Meaning, Pairs
-from .layers import Layer, common_decimals, most_decimals
+from .layers import Layer, are_boxes, common_decimals, most_decimals
 from .report import Report
 
 INTERSECTS = "intersects"
@@ -87,6 +87,14 @@ def distance_field() -> QgsField:
     return QgsField("distance", QVariant.Double)
 
 
+def _finest(layers: List[Layer], reach: List[float]) -> int:
+    """To how many decimals distances are rounded at least: what boxes may have, in the range of
+    the numbers."""
+    limits = units.BOXES if are_boxes(layers, 0, reach) else units.ANY
+    fitting = [limits.in_range(layer.coordinates) for layer in layers]
+    return min(units.BOXES.decimals, limits.in_range(reach), *fitting)
+
+
 class Distances(Condition):
     """Pairs that a command gives with their distances, perhaps within a greatest distance."""
 
@@ -103,8 +111,8 @@ class Distances(Condition):
 
     def decimals(self, layers: List[Layer], given: int | None, feedback: QgsProcessingFeedback
                  ) -> int:
-        """Those given, else as many as the range of the numbers allows, to which distances are
-        rounded then."""
+        """Those given, else as many as the coordinates and the distance have, and up to 6 where the
+        range of the numbers allows them, to which distances are rounded then."""
         reach = [] if self.distance is None else [self.distance]
         try:
             units.check_limit(reach, given or 0)
@@ -113,7 +121,8 @@ class Distances(Condition):
         most = units.most_decimals(reach)
         decimals = common_decimals(layers, given, feedback, most)
         if given is None:
-            decimals = min(most, most_decimals(layers))
+            needed = min(units.fewest_decimals(reach, decimals), most, most_decimals(layers))
+            decimals = max(needed, _finest(layers, reach))
         self._round(decimals, given is not None, feedback)
         feedback.pushInfo(f"Decimals of the distances: {decimals}")
         return decimals

@@ -20,8 +20,8 @@ DISTANCE_HELP = """
 <h3>Distances</h3>
 <p>Distances are those of the plane (Euclid), in the units of the coordinates, and 0 where two \
 features share a point. They are compared exactly. The field <i>distance</i> is rounded to the \
-decimals of the run: those given, else as many as the size of the coordinates allows, up to 6.\
-</p>"""
+decimals of the run: those given, else as many as the coordinates and the greatest distance have, \
+and up to 6 where the size of the coordinates allows them.</p>"""
 
 
 class JoinWithinDistance(JoinAlgorithm):

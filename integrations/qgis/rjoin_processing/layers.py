@@ -30,6 +30,7 @@ from .wkb import Kind
 
 if TYPE_CHECKING:
     from .columns import Flags, Numbers, Places
+    from .decimals import Coordinates
 
 # How rjoin reads layers that have other geometries than boxes.
 SHAPES = ("--geometry", "any", "--rings", "even-odd")
@@ -259,7 +260,7 @@ def tell(layer: Layer, has_list: bool, feedback: QgsProcessingFeedback) -> None:
 
 
 def common_decimals(layers: Sequence[Layer], given: int | None, feedback: QgsProcessingFeedback,
-                    most: int = units.MOST_DECIMALS) -> int:
+                    most: int = units.ANY.decimals) -> int:
     """The decimals of a run: the given ones, else the fewest that write all exactly, or if these
     are more than the range of the numbers allows, or than `most`, as many as are allowed.
 
@@ -322,10 +323,18 @@ def _tell_rounded(layer: Layer, places: Places, decimals: int, feedback: QgsProc
                              f"decimals: {rounded.size}")
 
 
-def format_words(layers: Sequence[Layer], decimals: int) -> List[str]:
-    """The words of rjoin that say how it reads the files of the layers."""
+def are_boxes(layers: Sequence[Layer], decimals: int, *others: Coordinates) -> bool:
+    """Whether rjoin may read the layers as boxes, beside other coordinates; else it reads any
+    geometry, which takes longer."""
+    numbers = [*(layer.coordinates for layer in layers), *others]
+    return not any(layer.has_shapes for layer in layers) and all(
+        units.BOXES.fit(some, decimals) for some in numbers)
+
+
+def format_words(layers: Sequence[Layer], decimals: int, *others: Coordinates) -> List[str]:
+    """The words of rjoin that say how it reads the files of the layers, and other coordinates."""
     words = ["--scale", str(decimals), "--round"]
-    if any(layer.has_shapes for layer in layers):
+    if not are_boxes(layers, decimals, *others):
         words += SHAPES
     return words
 

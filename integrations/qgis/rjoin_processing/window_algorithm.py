@@ -33,6 +33,7 @@ from .boxes import Box
 from .layers import (
     Layer,
     Others,
+    are_boxes,
     common_decimals,
     format_words,
     read_layer,
@@ -119,23 +120,24 @@ def _search(folder: Path, layer: Layer, extent: QgsRectangle, decimals: int,
         units.check_limit(bounds, decimals)
     except units.CoordinateError as fault:
         raise QgsProcessingException(f"Window: coordinate {fault}") from fault
-    if layer.has_shapes:
-        decimals = _window_decimals(layer, bounds, decimals, feedback)
-    else:
+    if are_boxes([layer], decimals, bounds):
         bounds = _narrowed(bounds, decimals)
+    else:
+        decimals = _window_decimals(layer, bounds, decimals, feedback)
     path, answer = folder / "layer.csv", folder / "window.csv"
     write_layer(path, layer, decimals)
     feedback.setProgress(50)
-    program.run(["window", str(path), wkt(bounds, decimals), *format_words([layer], decimals)],
-                answer, feedback.isCanceled)
+    program.run(["window", str(path), wkt(bounds, decimals),
+                 *format_words([layer], decimals, bounds)], answer, feedback.isCanceled)
     with open(answer, encoding="ascii") as file:
         next(file)
         return set(map(int, file))
 
 
 def _window_decimals(layer: Layer, bounds: Box, least: int, feedback: QgsProcessingFeedback) -> int:
-    """The decimals for a window over any geometries, which are those of the layer if these are
-    rounded, else the fewest that write the window exactly, else the most there may be."""
+    """The decimals for a window over a layer that isn't read as boxes, which are those of the layer
+    if these are rounded, else the fewest that write the window exactly, else the most there may be.
+    """
     decimals = least
     if layer.rules.decimals is None:
         most = min(units.most_decimals(bounds), units.most_decimals(layer.coordinates))

@@ -7,10 +7,11 @@ files by their ids. Geometries are points, lines and polygons, and several of on
 
 What all calls have in common:
 
-scale: how many decimals coordinates may have, 0 to 6; by default as many as they need. A coordinate
-with more is an InputError: nothing is rounded.
-decimals: the number of decimals that coordinates are rounded to, 0 to 6, a half away from zero;
-`"auto"` takes 6, or as many as the program's range allows. The result has the number as `decimals`.
+scale: how many decimals coordinates may have, 0 to 15; by default as many as they need. A
+coordinate with more is an InputError: nothing is rounded.
+decimals: the number of decimals that coordinates are rounded to, 0 to 15, a half away from zero;
+`"auto"` takes 15, or as many as the program's range allows, and 6 of boxes that have no more. The
+result has the number as `decimals`.
 rings: `"even-odd"` reads polygons whose rings cross, overlap or are flat by the even-odd rule, and
 an ImproperRingsWarning says how many there are and names the first five; `"proper"` refuses them.
 What two parts of a MULTIPOLYGON both cover is outside by this rule.
@@ -33,6 +34,7 @@ from typing import TYPE_CHECKING, Any, NamedTuple, Optional, Tuple, Union
 
 from rjoin import program, relations
 from rjoin.errors import ArgumentError, Notice
+from rjoin.limits import ANY
 from rjoin.picture import Picture
 
 if TYPE_CHECKING:
@@ -40,7 +42,6 @@ if TYPE_CHECKING:
 
     from rjoin.joining import Reading
 
-MOST_DECIMALS = 6
 MOST_WORKERS = 16
 RINGS = ("even-odd", "proper")
 
@@ -52,8 +53,8 @@ Workers = Union[int, str, None]
 class Stats(NamedTuple):
     """How many features a layer has, of each dimension, and the height of its R-tree.
 
-    segments and rectangles are lines and areas if these are all boxes, and else None; vertices, of
-    which a ring has its first one twice, are None if all are boxes.
+    segments and rectangles are lines and areas if the program joins the layer as boxes, and else
+    None; vertices, of which a ring has its first one twice, are None if it does.
     """
 
     features: int
@@ -178,11 +179,11 @@ def reading_of(scale: Optional[int], decimals: Decimals, rings: str, workers: Wo
 
     Wrong arguments, and a missing program, are refused before a layer is looked at.
     """
-    check_number("scale", scale, 0, MOST_DECIMALS)
+    check_number("scale", scale, 0, ANY.decimals)
     if workers != "auto":
         check_number("workers", workers, 1, MOST_WORKERS, "'auto' or None")
     if decimals != "auto":
-        check_number("decimals", decimals, 0, MOST_DECIMALS, "'auto' or None")
+        check_number("decimals", decimals, 0, ANY.decimals, "'auto' or None")
     if scale is not None and decimals is not None:
         raise ArgumentError("scale and decimals exclude each other: scale rounds nothing")
     if rings not in RINGS:

@@ -14,6 +14,7 @@ from typing import TYPE_CHECKING, Union
 from rjoin import outputs, signals
 from rjoin.errors import ArgumentError, EnvelopeWarning, LeftOutWarning, Notice, RjoinError
 from rjoin.found import VERSION
+from rjoin.limits import ANY
 
 if TYPE_CHECKING:
     from rjoin import files
@@ -113,10 +114,12 @@ def add_reading(known: argparse.ArgumentParser) -> None:
                        help="join the right features as they are in the reference system of the "
                             "left layer, with --decimals auto unless decimals are given")
     known.add_argument("--scale", metavar="K", type=int,
-                       help="decimals of a coordinate, 0 to 6; by default as many as are needed")
+                       help=f"decimals of a coordinate, 0 to {ANY.decimals}; by default as many "
+                            "as are needed")
     known.add_argument("--decimals", metavar="K", type=decimals,
-                       help="round coordinates to K decimals, 0 to 6, a half away from zero; with "
-                            "auto, to 6 or as many as the range allows")
+                       help=f"round coordinates to K decimals, 0 to {ANY.decimals}, a half away "
+                            f"from zero; with auto, to {ANY.decimals} or as many as the range "
+                            "allows")
     known.add_argument("--rings", choices=("even-odd", "proper"), default="even-odd",
                        help="treatment of polygons whose rings cross, overlap or are flat: read "
                             "them by the even-odd rule, or refuse them")
@@ -164,7 +167,7 @@ def distance(text: str) -> float:
 class Notices(NamedTuple):
     """What the options --other and --missing did to features, and how many rows are inexact.
 
-    kind: what a row is. decimals: those that --decimals auto rounded to.
+    kind: what a row is. decimals: those that --decimals auto rounded to, where it rounded any.
     """
 
     left_out: Tuple[Notice, ...]

@@ -16,13 +16,13 @@ import pandas
 
 from rjoin import outputs, signals, streams, texts
 from rjoin.errors import ArgumentError, InputError
+from rjoin.limits import ANY
 from rjoin.streams import Copy
 
 HEADER = b"id,wkt"
 # What hexadecimal well-known binary begins with, as a field.
 BINARY = re.compile(rb",\"?\s*0[01][0-9A-Fa-f]{8}")
 MOST_HEADER = len(b'"id","wkt"\r\n')
-MOST_BYTES = 134_217_728
 NUL = "a NUL character, behind which pandas doesn't read"
 
 # The extensions of tables as texts, of which GDAL takes a field named WKT for the geometries and
@@ -139,7 +139,7 @@ def records_of(place: Place) -> Iterator[List[str]]:
 @contextmanager
 def long_fields() -> Iterator[None]:
     """Has the module csv read fields as long as a file may be."""
-    before = csv.field_size_limit(MOST_BYTES)
+    before = csv.field_size_limit(ANY.bytes)
     try:
         yield
     finally:

@@ -15,13 +15,13 @@ from xml.sax.saxutils import escape
 import numpy as np
 import pandas
 
-from rjoin import decimals, program, reports, signals
+from rjoin import program, reports, signals
 from rjoin.decimals import Scale
 from rjoin.errors import EnvelopeWarning, ImproperRingsWarning, InputError, LeftOutWarning
 from rjoin.errors import Notice, RjoinError
 from rjoin.frames import NOBODY
 from rjoin.lengths import Length, Measure
-from rjoin.sheet import MOST_BYTES
+from rjoin.limits import ANY, BOXES, Limits
 from rjoin.sources import NO_BOX, Flags, GeometrySource, Rows, Rules, Source, TextSource
 from rjoin.sources import single_source, source_of
 from rjoin.texts import NO_TEXT
@@ -29,6 +29,9 @@ from rjoin.texts import NO_TEXT
 if TYPE_CHECKING:
     from rjoin.calls import Workers
 
+# What the program says of a number that is finer or greater than it reads.
+NUMBER = "number not whole or out of range"
+TOO_LONG = ("file is too long", "layer is full")
 # Where envelopes don't stand in one of these, the features don't.
 BY_ENVELOPES = ("intersects", "dwithin")
 TITLE = re.compile(r"<title>(\d+)</title>")
@@ -76,9 +79,10 @@ class Reading(NamedTuple):
 class Job:
     """The layers of a run and geometries beside them, and how the program is to read them.
 
-    widened: the program is to read any geometry, since a source has more than boxes, as texts and
-    rounded boxes show only when it reads them. overlooked: the inputs whose rings the
-    even-odd rule reads, by their sides, as warnings describe them.
+    widened: the program is to read any geometry, since a source has more than boxes, or numbers or
+    files that it reads only so; texts and rounded boxes show it only when it reads them.
+    overlooked: the inputs whose rings the even-odd rule reads, by their sides, as warnings describe
+    them.
     """
 
     def __init__(self, sources: Sequence[Source], reading: Reading,
@@ -91,21 +95,44 @@ class Job:
         self.overlooked: Dict[str, str] = {}
         self.settle()
 
-    def settle(self) -> None:
-        """Finds the scale that all inputs have in common."""
-        sources = [*self.sources, *self.geometries]
-        lengths = self.measure.lengths if self.measure else []
-        self.scale = scale_of([*sources, *lengths], self.reading,
-                              self.measure is not None and self.measure.is_fine)
+    def settle(self, widened: bool = False) -> None:
+        """Finds the scale that all inputs have in common, and whether they are read as boxes.
+
+        widened: it is known that they aren't.
+        """
+        is_fine = self.measure is not None and self.measure.is_fine
+        limits = ANY if widened or any(source.needs_any for source in self.numbers) else BOXES
+        self.scale = scale_of(self.numbers, self.reading, limits, is_fine)
+        if limits == BOXES and not self.are_boxes():
+            limits = ANY
+            self.scale = scale_of(self.numbers, self.reading, limits, is_fine)
+        self.widened = limits == ANY
         for source in self.sources:
             source.leave_out_dots(self.scale)
-        while self.scale.extra and not all(map(self.fits, range(len(self.sources)))):
+        while self.scale.extra and not all(source.fits(self.scale, limits)
+                                           for source in self.sources):
             self.scale = self.scale._replace(extra=self.scale.extra - 1)
-        self.widened = any(source.needs_any for source in sources)
 
-    def fits(self, place: int) -> bool:
-        """Whether the file of a frame is as small as the program needs it."""
-        return self.frame(place).size(self.scale) <= MOST_BYTES
+    @property
+    def numbers(self) -> List[Numbers]:
+        """All that has numbers."""
+        lengths = self.measure.lengths if self.measure else []
+        return [*self.sources, *self.geometries, *lengths]
+
+    def are_boxes(self) -> bool:
+        """Whether the program may read the inputs as boxes at the scale: no number is rounded then
+        by `auto`, which has more decimals for other geometries.
+        """
+        scale = self.scale.without_extra
+        most = BOXES.greatest(scale.decimals)
+        return (scale.decimals <= BOXES.decimals
+                and not (is_auto(self.reading) and self.has_more_decimals())
+                and all(source.greatest() <= most for source in self.numbers
+                        if source.may_count_units))
+
+    def has_more_decimals(self) -> bool:
+        """Whether a number has more decimals than the scale."""
+        return any(source.has_more(self.scale.decimals) for source in self.numbers)
 
     def frame(self, place: int) -> GeometrySource:
         """An input that is a frame."""
@@ -168,9 +195,9 @@ class Job:
 
     def widen(self, fault: program.InputFault) -> bool:
         """Whether the program is now to read any geometry, where it was to read boxes."""
-        if self.widened or fault.reason not in (NO_BOX, NO_TEXT):
+        if self.widened or fault.reason not in (NO_BOX, NO_TEXT, NUMBER, *TOO_LONG):
             return False
-        self.widened = True
+        self.settle(widened=True)
         return True
 
     def reread(self, fault: program.InputFault) -> bool:
@@ -335,15 +362,15 @@ def single(geometry: Any, side: str, reading: Reading) -> Single:
         return source
 
 
-def scale_of(sources: Sequence[Numbers], reading: Reading, is_fine: bool = False) -> Scale:
+def scale_of(sources: Sequence[Numbers], reading: Reading, limits: Limits, is_fine: bool) -> Scale:
     """The scale that is given or that the inputs need.
 
     Where all coordinates are numbers and not texts, the program is given whole numbers of units;
-    these are as small as its range allows if the scale has to be fine.
+    if the scale has to be fine these are as small as the range allows, but not finer than of boxes.
     """
     most = max(source.greatest() for source in sources) if is_fine or is_auto(reading) else 0.0
     if isinstance(reading.decimals, str):
-        number = decimals.most_in_range(most)
+        number = limits.in_range(most)
     elif reading.decimals is not None:
         number = reading.decimals
     elif reading.scale is not None:
@@ -351,7 +378,8 @@ def scale_of(sources: Sequence[Numbers], reading: Reading, is_fine: bool = False
     else:
         number = max(source.needed_decimals() for source in sources)
     dots = not all(source.may_count_units for source in sources)
-    extra = max(0, decimals.most_in_range(most) - number) if is_fine and not dots else 0
+    finest = min(limits.in_range(most), BOXES.decimals)
+    extra = max(0, finest - number) if is_fine and not dots else 0
     return Scale(number, dots, reading.rounds, extra)
 
 

@@ -34,6 +34,10 @@ class Length:
     def greatest(self) -> float:
         return float(self.numbers.max(initial=0.0))
 
+    def has_more(self, number: int) -> bool:
+        """Whether it has more decimals."""
+        return decimals.has_more(self.numbers, number)
+
     def units(self, scale: Scale) -> NDArray[np.int64]:
         """The distance, or each of several, in the units that are written."""
         try:

@@ -54,7 +54,8 @@ class Found(NamedTuple):
     """The rows of a join.
 
     matches: the places of the features. values: the last column of each pair. exact and known: of
-    each row, where they are asked for.
+    each row, where they are asked for. decimals: those that coordinates were rounded to, where some
+    have more.
     """
 
     matches: Matches
@@ -110,7 +111,8 @@ def asked(layers: Tuple[Any, Any], question: Question, reading: "Reading",
     known = are_known(*told) if is_marked else None
     attributes = job.finish({}, depth=1)
     return Found(matches, found[question.last].to_numpy(), exact, known,
-                 attributes["left_out"], attributes["enveloped"], attributes.get("decimals"))
+                 attributes["left_out"], attributes["enveloped"],
+                 job.scale.decimals if reading.rounds and job.has_more_decimals() else None)
 
 
 def pairs_of(job: "Job", question: Question, workers: Any) -> Any:

@@ -38,6 +38,8 @@ FAULT = re.compile(
     r"rjoin: (?P<side>left|right|layer|window|first|second): (?:row (?P<row>\d+): )?(?P<reason>.*)")
 UNKNOWN_OPTION = re.compile(r"error: unexpected argument '(?P<option>--[a-z-]+)' found")
 NO_MEMORY = "no memory"
+# What follows the fault of a row that is read as a box, where it is none.
+ANY_HINT = "; --geometry any reads this row"
 WRITE_FAILED = "write failed"
 WRONG_WORDS = 2
 
@@ -104,7 +106,7 @@ def error_of(program: str, status: int, text: str) -> Exception:
     if status < 0:
         return RjoinError(f"{program} was ended by signal {-status}")
     line = fault_line(text)
-    fault = FAULT.fullmatch(line)
+    fault = FAULT.fullmatch(line.removesuffix(ANY_HINT))
     if fault and fault["reason"] != NO_MEMORY:
         row = fault["row"]
         return InputFault(fault["side"], int(row) if row else None, fault["reason"])

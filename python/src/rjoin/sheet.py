@@ -14,7 +14,6 @@ Units = NDArray[np.int64]
 Bytes = NDArray[np.uint8]
 
 HEADER = b"id,wkt\n"
-MOST_BYTES = 134_217_728
 CHUNK = 1 << 14
 GROUP = 4
 # The digits that each number of 32 bits can have.

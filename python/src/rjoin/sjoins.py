@@ -108,8 +108,9 @@ def sjoin_nearest(left: "geopandas.GeoDataFrame", right: "geopandas.GeoDataFrame
 
     max_distance: how far away the nearest row may be, in the units of the coordinates, and rounded
     as these are; above 0. None for any distance.
-    distance_col: adds a column of this name with the distances, rounded to 6 decimals, or to as
-    many as the program's range allows; or to those of `scale` if it is given.
+    distance_col: adds a column of this name with the distances, rounded to 6 decimals, to those of
+    the coordinates where these have more, or to as many as the program's range allows; or to those
+    of `scale` if it is given.
     exclusive: leaves out rows whose geometry is equal to that of the row.
     incomplete: what a join does where features of the other side are left out, any of which may be
     the nearest one: `"error"` raises an InputError, `"mark"` adds the column `known`, which is

@@ -19,6 +19,7 @@ from rjoin import binary, decimals, files, sheet, texts
 from rjoin.bodies import AnyBody, BoxBody, shapes_of
 from rjoin.decimals import Scale
 from rjoin.errors import ArgumentError, InputError, Notice
+from rjoin.limits import ANY, Limits
 from rjoin.shapes import Objects, Status, boxes_of
 
 Rows = NDArray[np.int64]
@@ -81,14 +82,29 @@ class Source(ABC):
         self.crs: Any = None
         self.left_out: Tuple[Notice, ...] = ()
         self.enveloped: Tuple[Notice, ...] = ()
+        self.exact_at: Optional[int] = None
+
+    def needed_decimals(self) -> int:
+        """The fewest decimals that write all coordinates; InputError where the most don't."""
+        if self.exact_at is None:
+            self.exact_at = self.fewest_decimals()
+        return self.exact_at
 
     @abstractmethod
-    def needed_decimals(self) -> int:
-        """The fewest decimals that write all coordinates; InputError where 6 don't."""
+    def fewest_decimals(self) -> int:
+        """The same, counted anew."""
 
     @abstractmethod
     def greatest(self) -> float:
         """A number that no coordinate exceeds by its absolute value; 0 where all are small."""
+
+    @abstractmethod
+    def has_more(self, number: int) -> bool:
+        """Whether a coordinate has more decimals, as far as texts show it."""
+
+    def fits(self, scale: Scale, limits: Limits) -> bool:
+        """Whether the layer is as short as these limits ask, as far as that is known."""
+        return True
 
     @property
     def needs_any(self) -> bool:
@@ -149,7 +165,6 @@ class GeometrySource(Source):
         else:
             self.body = BoxBody(boxes.corners, self.is_envelope).chosen(kept)
         self.counted: Optional[Tuple[Scale, Units]] = None
-        self.exact_at: Optional[int] = None
 
     def kept(self, status: NDArray[np.uint8], rules: Rules) -> Flags:
         """The rows that the program is given; the others and the envelopes are noticed."""
@@ -196,15 +211,20 @@ class GeometrySource(Source):
     def error(self, row: int, reason: str) -> InputError:
         return self.fault(int(self.rows[row - 1]), reason)
 
-    def needed_decimals(self) -> int:
+    def fewest_decimals(self) -> int:
         try:
-            self.exact_at = decimals.fewest(self.body.numbers)
-            return self.exact_at
+            return decimals.fewest(self.body.numbers)
         except decimals.Unwritable as number:
             raise self.error(self.body.owner(number.row) + 1, number.reason) from number
 
     def greatest(self) -> float:
-        return float(np.abs(self.body.numbers).max(initial=0.0))
+        return decimals.greatest(self.body.numbers)
+
+    def has_more(self, number: int) -> bool:
+        return decimals.has_more(self.body.numbers, number)
+
+    def fits(self, scale: Scale, limits: Limits) -> bool:
+        return self.count <= limits.features and self.size(scale) <= limits.bytes
 
     def units(self, scale: Scale) -> Units:
         """The numbers in units of the decimals, which the last scale's calls have in common."""
@@ -262,10 +282,10 @@ class GeometrySource(Source):
         columns = self.columns(scale)
         size = self.size(scale, columns)
         self.id_digits = columns.id.digits
-        if size > sheet.MOST_BYTES:
+        if size > ANY.bytes:
             raise InputError(self.side, f"{self.count} features with coordinates of this "
                              f"length take {size} bytes, and the program reads "
-                             f"{sheet.MOST_BYTES}: take fewer decimals or join the layer in parts")
+                             f"{ANY.bytes}: take fewer decimals or join the layer in parts")
         units = self.units(scale)
         path = folder / f"{self.side}.csv"
         with open(path, "wb") as file:
@@ -308,11 +328,14 @@ class TextSource(Source):
     def has_binary(self) -> bool:
         return any(map(binary.is_binary, self.values))
 
-    def needed_decimals(self) -> int:
+    def fewest_decimals(self) -> int:
         return decimals_of_texts(self, self.values.tolist())
 
     def greatest(self) -> float:
         return texts.greatest(self.values.tolist())
+
+    def has_more(self, number: int) -> bool:
+        return decimals.fewest_of_text("\n".join(self.values)) > number
 
     def write(self, folder: Path, scale: Scale) -> Path:
         path = folder / f"{self.side}.csv"
@@ -359,11 +382,14 @@ class FileSource(Source):
         return files.may_have_binary(self.place) and any(
             map(binary.is_binary, files.texts_of(self.place)))
 
-    def needed_decimals(self) -> int:
+    def fewest_decimals(self) -> int:
         return decimals_of_texts(self, files.texts_of(self.place))
 
     def greatest(self) -> float:
         return texts.greatest(files.texts_of(self.place))
+
+    def has_more(self, number: int) -> bool:
+        return decimals.fewest_of_text("\n".join(files.texts_of(self.place))) > number
 
     def write(self, folder: Path, scale: Scale) -> Path:
         row = files.first_with_nul(self.place)

@@ -13,6 +13,7 @@ import numpy as np
 import pandas
 
 from rjoin import binary, decimals
+from rjoin.limits import ANY
 from rjoin.shapes import Objects
 
 NO_TEXT = "not a geometry text"
@@ -34,11 +35,12 @@ FIRST_TWO = re.compile(rf"[(,]\s*({FREE})\s+({FREE})", re.ASCII | re.IGNORECASE)
 # What stands before a text in the extended form of PostGIS (EWKT).
 SRID = re.compile(r"\s*SRID\s*=\s*([0-9]{1,9})\s*;", re.ASCII | re.IGNORECASE)
 EMPTY = re.compile(rf"\s*{KIND}\s+EMPTY\s*", re.ASCII | re.IGNORECASE)
-FINE = re.compile(r"\.[0-9]{%d,}[1-9]" % decimals.MOST)
+FINE = re.compile(r"\.[0-9]{%d,}[1-9]" % ANY.decimals)
 EXPONENT = re.compile(r"[0-9.]E", re.IGNORECASE)
-# Numbers of a million and more, and all that have an exponent.
-GREAT = re.compile(r"(?<![0-9.])(?:[0-9]{7,}\.?[0-9]*(?:E[-+]?[0-9]+)?|"
-                   r"(?:[0-9]+\.?[0-9]*|\.[0-9]+)E[-+]?[0-9]+)", re.ASCII | re.IGNORECASE)
+# Numbers that aren't in range with all decimals, by their digits, and all that have an exponent.
+GREAT = re.compile(r"(?<![0-9.])(?:[0-9]{%d,}\.?[0-9]*(?:E[-+]?[0-9]+)?|"
+                   r"(?:[0-9]+\.?[0-9]*|\.[0-9]+)E[-+]?[0-9]+)"
+                   % len(str(int(ANY.greatest(ANY.decimals)))), re.ASCII | re.IGNORECASE)
 
 
 def first_unwritable(texts: Sequence[str]) -> int:
@@ -86,7 +88,7 @@ def fewest_decimals(texts: Sequence[str]) -> Tuple[int, Optional[Tuple[int, str]
     read.
     """
     needed = decimals.fewest_of_text("\n".join(texts))
-    if needed <= decimals.MOST:
+    if needed <= ANY.decimals:
         return needed, None
     for row, text in enumerate(texts, start=1):
         reason = too_fine(text)
@@ -102,14 +104,14 @@ def too_fine(text: str) -> Optional[str]:
         return None
     numbers = (number for pair in FIRST_TWO.findall(text) for number in pair)
     return next((decimals.too_fine(number) for number in numbers
-                 if decimals.count_of(number) > decimals.MOST), None)
+                 if decimals.count_of(number) > ANY.decimals), None)
 
 
 def greatest(texts: Iterable[str]) -> float:
     """A number that no coordinate of some texts, but for those of binary, exceeds by its absolute
     value.
 
-    It is 0 where all are below a million; a height may count as a coordinate.
+    It is 0 where all are in range with all decimals; a height may count as a coordinate.
     """
     great = (number for text in texts if not binary.is_binary(text)
              for number in GREAT.findall(text))

@@ -13,11 +13,11 @@ import numpy as np
 from rjoin_cluster.answers import Boxes
 from rjoin_cluster.digits import Texts, digits_in, put, written
 from rjoin_cluster.program import HEADER, MOST_BYTES, MOST_FEATURES
+from rjoin_cluster.reading import BOXES
 from rjoin_cluster.records import Bytes, Places
 from rjoin_cluster.run_ids import ID_BYTES, letters_of
 
 ROWS_AT_ONCE = 2**13  # which stay in the processor's cache
-MOST_COORDINATE = 10**12  # in units; the program takes none that is greater
 
 
 @dataclass(frozen=True)
@@ -79,7 +79,7 @@ def spelling_of(layers: Sequence[Boxes], numerals: Numerals) -> Spelling:
     high = np.max([corners[2:].max(axis=1) for corners in columns], axis=0)
     greatest = int((high - low).max())
     near = Numerals(digits_in(greatest), False)
-    if near.width >= numerals.width or greatest > MOST_COORDINATE:
+    if near.width >= numerals.width or greatest > BOXES.coordinate:
         return Spelling(numerals)
     return Spelling(near, (int(low[0]), int(low[1])))
 

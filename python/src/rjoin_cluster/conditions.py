@@ -11,7 +11,6 @@ from rjoin_cluster.program import HEADER, Program, RowFault
 MATRIX = "matrix"
 MATRIX_LETTERS = 9
 DISTANCE = "distance"
-MOST_DISTANCE = 4 * 10**12  # units; the program takes none that is greater
 
 
 @dataclass(frozen=True)
@@ -69,7 +68,7 @@ def reach_of(condition: Condition, program: Program) -> Reach:
     as the scale has, and is at most that of the condition.
     """
     if condition.is_nearest and condition.distance is None:
-        return Reach(0, DISTANCE, width_of(MOST_DISTANCE, program))
+        return Reach(0, DISTANCE, width_of(program.reading.limits.distance, program))
     if condition.distance is None:
         return Reach(0, "", 0) if PAIRS in condition.words else Reach(0, MATRIX, MATRIX_LETTERS)
     units = units_of(condition.distance, program)
@@ -87,5 +86,5 @@ def units_of(distance: str, program: Program) -> int:
     """
     answer = program.bounds([HEADER, f"distance,POINT ({distance} 0)\n".encode()])
     if isinstance(answer, RowFault):
-        return MOST_DISTANCE
+        return program.reading.limits.distance
     return int(read_answer(answer.output).boxes[0, 0])

@@ -9,7 +9,7 @@ from rjoin_cluster.words import WORD, Words, last_bytes, words_at
 
 Texts = NDArray[np.void]  # each text is one element
 
-MOST_DIGITS = 2 * WORD
+MOST_DIGITS = 19  # of a number of 64 bits with its sign
 MINUS = ord("-")
 GROUP = 4
 ZEROS = np.uint64(0x3030303030303030)
@@ -54,9 +54,9 @@ def put(text: Bytes, at: int, texts: Texts) -> None:
 
 
 def numbers_in(text: Bytes, begins: Places, ends: Places, signed: bool = True) -> Places:
-    """The numbers that stand between these places of a text: of at most 16 digits, with a minus
-    sign where they are below 0, if signs are looked for. None ends within the first 16 bytes.
-    Anything else is a ValueError.
+    """The numbers that stand between these places of a text: of at most 19 digits, with a minus
+    sign where they are below 0, if signs are looked for. None ends within the first 16 bytes, and
+    all are of 64 bits. Anything else is a ValueError.
     """
     digits = ends - begins
     below_zero = None
@@ -67,9 +67,11 @@ def numbers_in(text: Bytes, begins: Places, ends: Places, signed: bool = True) -
     if digits.min(initial=1) < 1 or longest > MOST_DIGITS:
         raise ValueError(f"not 1 to {MOST_DIGITS} digits")
     numbers = number_of_digits(last_bytes(digits_before(text, ends), digits))
-    if longest > WORD:
-        high = last_bytes(digits_before(text, ends - WORD), digits - WORD)
-        numbers += 10**WORD * number_of_digits(high)
+    for low in range(WORD, longest, WORD):
+        # before a number that is shorter, these bytes may lie before the text
+        begins = np.maximum(ends - low, WORD)
+        high = last_bytes(digits_before(text, begins), digits - low)
+        numbers += 10**low * number_of_digits(high)
     return numbers if below_zero is None else np.negative(numbers, out=numbers, where=below_zero)
 
 

@@ -10,7 +10,7 @@ from typing import Any, Iterator, Mapping, NamedTuple, Optional, Sequence
 import numpy as np
 
 from rjoin_cluster.choice import Choice
-from rjoin_cluster.conditions import MOST_DISTANCE, Condition, Reach
+from rjoin_cluster.conditions import Condition, Reach
 from rjoin_cluster.doubles import DoublesJob, first_double
 from rjoin_cluster.engine import Engine, Work, works_of
 from rjoin_cluster.faults import ProgramFault
@@ -250,11 +250,12 @@ class Joining:
         condition, left, right = self.request.condition, self.layers.left, self.layers.right
         samples = (left.sample(0), right.sample(0))
         most = max(1, min(condition.most, right.rows))
-        distance = first_distance(*samples, most)
+        greatest = self.request.program.reading.limits.distance
+        distance = first_distance(*samples, most, greatest)
         this = Round(1, self.layout.of_round(1), condition, self.reach, self.choices())
         tiles, dealt = 0, self.counts()
         waiting, runs, rounds = dealt[Side.LEFT], list[RunDone](), list[int]()
-        while waiting > FEW and right.rows and distance < MOST_DISTANCE:
+        while waiting > FEW and right.rows and distance < greatest:
             done = self.join_by_tiles(self.within(this, distance))
             runs += done.runs
             rounds += done.rounds
@@ -359,4 +360,5 @@ def check_doubles(
 def fault_line(side: Side, located: Located) -> ProgramFault:
     fault = located.fault
     row = f"row {fault.row}: " if fault.row else ""
-    return ProgramFault(f"{fault.teller}: {side.value}: {row}{fault.text}{located.place}")
+    hint = f"\n{fault.hint}" if fault.hint else ""
+    return ProgramFault(f"{fault.teller}: {side.value}: {row}{fault.text}{located.place}{hint}")

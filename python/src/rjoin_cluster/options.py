@@ -123,7 +123,8 @@ def add_options_of_two_layers(options: argparse.ArgumentParser) -> None:
 def add_reading_options(options: argparse.ArgumentParser) -> None:
     """Options of the program, which checks their values."""
     options.add_argument(
-        "--scale", default="0", metavar="K", help="decimals that a coordinate may have, 0 to 6"
+        "--scale", default="0", metavar="K", help="decimals that a coordinate may have, 0 to 6, or "
+        "to 15 with --geometry any",
     )
     options.add_argument(
         "--round", action="store_true", help="read numbers as the nearest ones of K decimals"

@@ -3,7 +3,7 @@ a block is more than a run takes.
 """
 from __future__ import annotations
 
-from dataclasses import dataclass
+from dataclasses import dataclass, replace
 from typing import Iterator, Optional, Sequence
 
 import numpy as np
@@ -73,7 +73,7 @@ def features_of_parts(
         skipped.append(read.skipped.behind(rows))
         improper.append(read.improper.behind(known))
         if read.fault is not None:
-            fault = RowFault(read.fault.row + rows, read.fault.text, read.fault.teller)
+            fault = replace(read.fault, row=read.fault.row + rows)
             break
         rows += read.records
         known += len(read.features.boxes)

@@ -21,8 +21,10 @@ from rjoin_cluster.records import Bytes
 MOST_FEATURES = 1_000_000
 MOST_BYTES = 134_217_728
 HEADER = b"id,wkt\n"
-ROW_FAULT = re.compile(r"rjoin: layer: row (\d+): (.*)\n")
-HEADER_FAULT = "rjoin: layer: wrong header\n"
+# What the program may say of a fault, on a line of its own.
+HINT = r"(?:\n(.*))?"
+ROW_FAULT = re.compile(rf"rjoin: layer: row (\d+): (.*){HINT}\n")
+HEADER_FAULT = re.compile(rf"rjoin: layer: wrong header{HINT}\n")
 
 # What the launcher of rjoin asks of the C library: to take memory in large pieces.
 TUNABLES = ":".join(
@@ -42,13 +44,14 @@ NO_FILES: Mapping[str, Sequence[Text]] = MappingProxyType({})
 
 @dataclass(frozen=True)
 class RowFault:
-    """A fault of a layer: its row, from 1, or 0 for the header, what is said of it, and by which
-    program.
+    """A fault of a layer: its row, from 1, or 0 for the header, what is said of it, by which
+    program, and what may help.
     """
 
     row: int
     text: str
     teller: str = "rjoin"
+    hint: Optional[str] = None
 
 
 @dataclass(frozen=True)
@@ -159,12 +162,13 @@ class Program:
         ended = self.run(["bounds", *self.reading.words()], [layer])
         if ended.status == 0:
             return ended
-        if ended.errors == HEADER_FAULT:
-            return RowFault(0, "wrong header")
+        told = HEADER_FAULT.fullmatch(ended.errors)
+        if told is not None:
+            return RowFault(0, "wrong header", hint=told.group(1))
         told = ROW_FAULT.fullmatch(ended.errors)
         if told is None:
             raise RunFailed(f"rjoin bounds: status {ended.status}: {ended.errors.strip()}")
-        return RowFault(int(told.group(1)), told.group(2))
+        return RowFault(int(told.group(1)), told.group(2), hint=told.group(3))
 
     def answer(self, words: Sequence[str], layer: Sequence[Text]) -> Bytes:
         """The answer of a command for a layer that has no fault."""

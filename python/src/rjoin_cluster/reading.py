@@ -8,6 +8,19 @@ BOX = "box"
 
 
 @dataclass(frozen=True)
+class Limits:
+    """What the program takes: units of a coordinate and of a distance, and decimals of both."""
+
+    coordinate: int
+    distance: int
+    decimals: int
+
+
+BOXES = Limits(10**12, 4 * 10**12, 6)
+ANY = Limits(10**18, 4 * 10**18, 15)
+
+
+@dataclass(frozen=True)
 class Reading:
     """The options of the program that say how geometries are read, as they were given; the program
     checks them.
@@ -32,6 +45,10 @@ class Reading:
     def is_of_boxes(self) -> bool:
         """Whether a geometry is a point, a segment along an axis or a rectangle."""
         return self.geometry in (None, BOX)
+
+    @property
+    def limits(self) -> Limits:
+        return BOXES if self.is_of_boxes else ANY
 
 
 UNITS = Reading()  # whole numbers, of boxes

@@ -13,7 +13,7 @@ import numpy as np
 
 from rjoin_cluster.answers import Boxes
 from rjoin_cluster.choice import Choice, save_chosen
-from rjoin_cluster.conditions import MOST_DISTANCE, Condition, Reach
+from rjoin_cluster.conditions import Condition, Reach
 from rjoin_cluster.layout import Layout, mapped, save_array
 from rjoin_cluster.merge import PartJob, pairs_of, save_ranges
 from rjoin_cluster.records import Places
@@ -80,9 +80,9 @@ def save_last(layout: Layout, choice: Choice, firsts: Places) -> Places:
     return numbers
 
 
-def first_distance(left: Sample, right: Sample, most: int) -> int:
-    """A distance in units within which most left features have enough right ones, as samples let
-    expect; what it is changes nothing but the time that a search takes.
+def first_distance(left: Sample, right: Sample, most: int, greatest: int) -> int:
+    """A distance in units, up to a greatest one, within which most left features have enough right
+    ones, as samples let expect; what it is changes nothing but the time that a search takes.
     """
     ones = left.boxes[:: 1 + len(left.boxes) // LEFT_OF_SAMPLE]
     others = right.boxes[:: 1 + len(right.boxes) // RIGHT_OF_SAMPLE]
@@ -92,7 +92,7 @@ def first_distance(left: Sample, right: Sample, most: int) -> int:
     gaps = np.sort([least_gap(box, others) for box in ones])
     gap = float(gaps[int(MOST_FEATURES_APART * (gaps.size - 1))])
     wanted = SPACINGS * gap * np.sqrt(most * share)
-    return int(min(max(wanted, 1), MOST_DISTANCE))
+    return int(min(max(wanted, 1), greatest))
 
 
 def least_gap(box: Boxes, others: Boxes) -> float:

@@ -10,7 +10,7 @@ from typing import Sequence, Union
 import numpy as np
 
 from rjoin_cluster.faults import RunFailed
-from rjoin_cluster.program import HEADER, Program, RowFault, Text
+from rjoin_cluster.program import HEADER, HINT, Program, RowFault, Text
 from rjoin_cluster.records import COMMA, Bytes, Places, field_ends, record_ends
 
 # What the program says of a geometry that it can't read.
@@ -21,7 +21,7 @@ FAULTS = (
     "a line without length, or a ring that is not closed or is flat",
     "rings cross or overlap",
 )
-LEFT_FAULT = re.compile(r"rjoin: left: row (\d+): (.*)\n")
+LEFT_FAULT = re.compile(rf"rjoin: left: row (\d+): (.*){HINT}\n")
 COLUMNS_BEFORE_ID = 2
 
 
@@ -84,7 +84,7 @@ def list_of(program: Program, layer: Sequence[Text]) -> Union[bytes, RowFault]:
     fault = LEFT_FAULT.fullmatch(ended.errors)
     if fault is None:
         raise RunFailed(f"rjoin join: status {ended.status}: {ended.errors.strip()}")
-    return RowFault(int(fault.group(1)), fault.group(2))
+    return RowFault(int(fault.group(1)), fault.group(2), hint=fault.group(3))
 
 
 def without(part: Bytes, records: Places) -> list[Text]:

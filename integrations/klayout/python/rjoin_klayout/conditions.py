@@ -14,8 +14,9 @@ from .report import Mark, Place
 RELATIONS = ("intersects", "touches", "crosses", "within", "contains", "overlaps", "equals",
              "covers", "covered_by", "contains_properly")
 NUMBER = re.compile(r"\d+(\.\d*)?|\.\d+")
+# Of a run; and the greatest coordinate of boxes, and of any shapes, in units of the last decimal.
 MOST_DECIMALS = 6
-LIMIT = 1_000_000_000_000
+BOX_LIMIT, LIMIT = 10**12, 10**18
 # How many digits KLayout writes of a number of micrometres.
 DIGITS = 12
 DIMENSIONS = {"0": "points", "1": "lines", "2": "an area"}
@@ -174,8 +175,9 @@ class Space(Condition):
     def _decimals(self, layers: Sequence[Layer]) -> int:
         """As many decimals as the program's range allows for the spacing and the layers."""
         reach = max(self.limit, *(layer.reach for layer in layers))
+        limit = BOX_LIMIT if all(layer.is_of_boxes() for layer in layers) else LIMIT
         return max((decimals for decimals in range(MOST_DECIMALS + 1)
-                    if reach * 10**decimals <= LIMIT), default=0)
+                    if reach * 10**decimals <= limit), default=0)
 
     def _asked(self) -> List[str]:
         return ["near", f"--distance={self.limit}", "--apart"]
