@@ -47,8 +47,8 @@ DISTANCES = ("near --distance 3", "near --distance 7 --apart", "nearest", "neare
 # The commands whose answers plain_joins.py and plain_distances.py compute.
 PLAIN = {"join": plain_joins.answer, "window": plain_joins.answer, "bounds": plain_joins.answer,
          "near": plain_joins.answer, "nearest": plain_distances.answer}
-# The greatest distance that a join may ask for, in units.
-FARTHEST = 4 * 10 ** 12
+# The greatest distance that a join of any geometry may ask for, in units.
+FARTHEST = 4 * 10 ** 18
 ALLOWS_DISJOINT = b"rjoin: --relation: disjoint features may fit\n"
 # What is said of layers that have rows with improper rings, read by the even-odd rule.
 IMPROPER = re.compile(

@@ -1,7 +1,7 @@
 """Small joins of layers of any geometry, each made from its number.
 
 Features lie on a coarse grid and take stretches of each other, so that ends, sides and vertices coincide; of some joins
-the grid is taken to coordinates near the limit, with each vertex moved by up to two units.
+the grid is taken to coordinates near a limit, with each vertex moved by up to two units.
 """
 import random
 import re
@@ -67,7 +67,7 @@ class Features:
         self.move = self.moves()
 
     def moves(self) -> Callable[[Geometry], Geometry]:
-        """Where geometries go from the grid: nowhere, to coordinates near the limit, or there with a slip."""
+        """Where geometries go from the grid: nowhere, to coordinates near a limit, or there with a slip."""
         slip = self.source.choice((None, None, None, 0, 2))
         if slip is None:
             return lambda geometry: geometry
@@ -165,7 +165,7 @@ def join_of(number: int) -> Join:
     rings = "even-odd" if number % 3 == 2 else "proper"
     turn = number % (len(NAMES) + 1)
     relation = NAMES[turn] if turn < len(NAMES) else mask_of(source)
-    digits = source.choice((0, 0, 1, 6))
+    digits = source.choice((0, 0, 1, 6, 15))
     features = Features(source, rings)
     layers = {"left": features.layer(), "right": features.layer()}
     files = {f"{side}.csv": layer_file(layer, digits) for side, layer in layers.items()}

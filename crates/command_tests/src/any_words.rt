@@ -1,6 +1,6 @@
 //! Words that ask for geometries of any direction, and the order of their faults.
 
-use crate::read_words::{asks, is_refused, parted};
+use crate::read_words::{asks, is_refused, parted, scale_of};
 use any_relation_core::AnyRelation;
 use format_core::Layout;
 use number_core::{Rounding, Scale};
@@ -50,12 +50,9 @@ fn is_read_as(
 
 #[test]
 fn layers(rt: HostRuntime) -> Result<(), Fail> {
-    let Some(scale) = Scale::new(0) else {
-        panic!(rt; "no scale");
-    };
     let alloc = rt.alloc();
     for &(last, geometries) in GEOMETRIES {
-        let layer = layer(scale, geometries);
+        let layer = layer(scale_of(geometries, 0)?, geometries);
         let wkt = "POINT (0 0)";
         let window = Command::Window { layer, wkt };
         assert!(rt;
@@ -114,9 +111,7 @@ const JOINS: &[(&str, Rings)] = &[
 
 #[test]
 fn joins(rt: HostRuntime) -> Result<(), Fail> {
-    let Some(scale) = Scale::new(0) else {
-        panic!(rt; "no scale");
-    };
+    let scale = scale_of(PROPER, 0)?;
     let options = Options::new(4, 256, 2)?;
     for &(last, rings) in JOINS {
         let condition = Condition::Any(AnyRelation::new(Relation::Crosses, rings)?);
@@ -174,7 +169,15 @@ const FAULTS: &[(&str, &str)] = &[
         "--scale must be 0 to 6",
     ),
     (
-        "--relation|touches|--geometry|any|--rings|odd|--scale|7",
+        "--relation|touches|--geometry|any|--rings|odd|--scale|16",
+        "--scale must be 0 to 15",
+    ),
+    (
+        "--relation|touches|--geometry|any|--rings|odd|--scale|15",
+        RINGS,
+    ),
+    (
+        "--relation|touches|--geometry|box|--rings|odd|--scale|7",
         "--scale must be 0 to 6",
     ),
     (
@@ -214,8 +217,8 @@ const LAYER_FAULTS: &[(&str, &str)] = &[
     ("rjoin|bounds|l.csv|--rings|even-odd", RINGS_OF_BOXES),
     ("rjoin|window|l.csv|x|--geometry|any|--rings|odd", RINGS),
     (
-        "rjoin|relate|x|y|--geometry|any|--rings|odd|--scale|7",
-        "--scale must be 0 to 6",
+        "rjoin|relate|x|y|--geometry|any|--rings|odd|--scale|16",
+        "--scale must be 0 to 15",
     ),
 ];
 

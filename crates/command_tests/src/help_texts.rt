@@ -31,8 +31,9 @@ Geometries are points, segments along an axis and rectangles, as well-known text
 With --geometry any they are points, polylines and polygons of any direction, and MULTI forms.
 
 A coordinate has no decimals, or up to K with --scale K; counted in units of the last decimal, its
-absolute value is at most 1000000000000. With --round it may have any number of decimals, and an
-exponent as in 1.5e-7; it is read as the nearest one of K decimals, a half away from zero.
+absolute value is at most 1000000000000, or 1000000000000000000 with --geometry any. With --round
+it may have any number of decimals, and an exponent as in 1.5e-7; it is read as the nearest one of K
+decimals, a half away from zero.
 
 The path - stands for standard input, for at most one file of a command.
 
@@ -54,7 +55,7 @@ Arguments:
   <B>  Second geometry, as well-known text
 
 Options:
-      --scale <scale>        Decimals that a coordinate may have, 0 to 6 [default: 0]
+      --scale <scale>        Decimals of a coordinate, 0 to 6; any geometry 0 to 15 [default: 0]
       --round                Read each number as the nearest one of these decimals
       --geometry <geometry>  Kind of the geometries, box or any [default: box]
       --rings <rings>        Rings that --geometry any accepts, proper (the default) or even-odd
@@ -97,7 +98,7 @@ Options:
       --workers <workers>      Number of threads, 1 to 16, or auto for one per processor [default: 4]
       --batch <batch>          Pairs per batch, 1 to 4096 [default: 256]
       --cut <cut>              Rounds of cutting the trees into tasks, 0 to 8 [default: 2]
-      --scale <scale>          Decimals that a coordinate may have, 0 to 6 [default: 0]
+      --scale <scale>          Decimals of a coordinate, 0 to 6; any geometry 0 to 15 [default: 0]
       --round                  Read each number as the nearest one of these decimals
       --geometry <geometry>    Kind of the geometries, box or any [default: box]
       --rings <rings>          Rings that --geometry any accepts, proper (the default) or even-odd
@@ -172,7 +173,7 @@ Options:
       --workers <workers>      Number of threads, 1 to 16, or auto for one per processor [default: 4]
       --batch <batch>          Pairs per batch, 1 to 4096 [default: 256]
       --cut <cut>              Rounds of cutting the trees into tasks, 0 to 8 [default: 2]
-      --scale <scale>          Decimals that a coordinate may have, 0 to 6 [default: 0]
+      --scale <scale>          Decimals of a coordinate, 0 to 6; any geometry 0 to 15 [default: 0]
       --round                  Read each number as the nearest one of these decimals
       --geometry <geometry>    Kind of the geometries, box or any [default: box]
       --rings <rings>          Rings that --geometry any accepts, proper (the default) or even-odd
@@ -198,7 +199,7 @@ right one, and 0 if they share a point. The report has the pairs whose distance 
 --distance, which is decided exactly, and with --apart only those that share no point.
 
 The number after --distance is read as a coordinate is, with --scale and --round, and is 0 to
-4000000000000 units of the last decimal.
+4000000000000 units of the last decimal, or to 4000000000000000000 with --geometry any.
 
 The report is CSV: left,right,distance, and for each pair the two ids and the distance, rounded to
 the nearest unit of the last decimal. Neither --workers nor --batch nor --cut changes the report.
@@ -237,7 +238,7 @@ Options:
       --workers <workers>      Number of threads, 1 to 16, or auto for one per processor [default: 4]
       --batch <batch>          Pairs per batch, 1 to 4096 [default: 256]
       --cut <cut>              Rounds of cutting the trees into tasks, 0 to 8 [default: 2]
-      --scale <scale>          Decimals that a coordinate may have, 0 to 6 [default: 0]
+      --scale <scale>          Decimals of a coordinate, 0 to 6; any geometry 0 to 15 [default: 0]
       --round                  Read each number as the nearest one of these decimals
       --geometry <geometry>    Kind of the geometries, box or any [default: box]
       --rings <rings>          Rings that --geometry any accepts, proper (the default) or even-odd
@@ -264,7 +265,7 @@ right ones as --most says, and all that are as far away as the last of these; wi
 those that are at most so far away. Distances are compared exactly.
 
 The number after --distance is read as a coordinate is, with --scale and --round, and is 0 to
-4000000000000 units of the last decimal.
+4000000000000 units of the last decimal, or to 4000000000000000000 with --geometry any.
 
 The report is CSV: left,right,distance, and for each pair the two ids and the distance, rounded to
 the nearest unit of the last decimal. It is in the order of the left file, then by distance, then in
@@ -305,7 +306,7 @@ Options:
       --workers <workers>      Number of threads, 1 to 16, or auto for one per processor [default: 4]
       --batch <batch>          Pairs per batch, 1 to 4096 [default: 256]
       --cut <cut>              Rounds of cutting the trees into tasks, 0 to 8 [default: 2]
-      --scale <scale>          Decimals that a coordinate may have, 0 to 6 [default: 0]
+      --scale <scale>          Decimals of a coordinate, 0 to 6; any geometry 0 to 15 [default: 0]
       --round                  Read each number as the nearest one of these decimals
       --geometry <geometry>    Kind of the geometries, box or any [default: box]
       --rings <rings>          Rings that --geometry any accepts, proper (the default) or even-odd
@@ -338,7 +339,7 @@ Arguments:
   <WKT>    Geometry of the window, as well-known text
 
 Options:
-      --scale <scale>          Decimals that a coordinate may have, 0 to 6 [default: 0]
+      --scale <scale>          Decimals of a coordinate, 0 to 6; any geometry 0 to 15 [default: 0]
       --round                  Read each number as the nearest one of these decimals
       --geometry <geometry>    Kind of the geometries, box or any [default: box]
       --rings <rings>          Rings that --geometry any accepts, proper (the default) or even-odd
@@ -373,7 +374,7 @@ Arguments:
   <LAYER>  CSV file of the layer
 
 Options:
-      --scale <scale>          Decimals that a coordinate may have, 0 to 6 [default: 0]
+      --scale <scale>          Decimals of a coordinate, 0 to 6; any geometry 0 to 15 [default: 0]
       --round                  Read each number as the nearest one of these decimals
       --geometry <geometry>    Kind of the geometries, box or any [default: box]
       --rings <rings>          Rings that --geometry any accepts, proper (the default) or even-odd
@@ -408,7 +409,7 @@ Arguments:
   <LAYER>  CSV file of the layer
 
 Options:
-      --scale <scale>          Decimals that a coordinate may have, 0 to 6 [default: 0]
+      --scale <scale>          Decimals of a coordinate, 0 to 6; any geometry 0 to 15 [default: 0]
       --round                  Read each number as the nearest one of these decimals
       --geometry <geometry>    Kind of the geometries, box or any [default: box]
       --rings <rings>          Rings that --geometry any accepts, proper (the default) or even-odd

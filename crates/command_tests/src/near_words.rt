@@ -1,6 +1,6 @@
 //! Words of joins by distance, and the order of their faults.
 
-use crate::read_words::{asks, is_refused};
+use crate::read_words::{asks, is_refused, scale_of};
 use distance_core::{Distance, Nearness};
 use format_core::Layout;
 use number_core::{Rounding, Scale};
@@ -88,11 +88,10 @@ const KINDS: &[(&str, Geometries)] = &[
 
 #[test]
 fn kinds(rt: HostRuntime) -> Result<(), Fail> {
-    let scale = Scale::new(0).ok_or("a scale")?;
     for &(last, geometries) in KINDS {
         let wanted = Command::Near(NearRequest {
             geometries,
-            ..near(scale, 5)?
+            ..near(scale_of(geometries, 0)?, 5)?
         });
         assert!(rt; asks(rt.alloc(), "near", last, wanted)?, "{last}");
     }
@@ -121,6 +120,10 @@ fn every_word(rt: HostRuntime) -> Result<(), Fail> {
 
 const DISTANCE: &str = "--distance must be a number of the scale, 0 to 4000000000000 units";
 
+/// The fault of a distance of any geometry.
+pub(crate) const FAR_DISTANCE: &str =
+    "--distance must be a number of the scale, 0 to 4000000000000000000 units";
+
 /// Words after the files, and the text of their fault.
 const FAULTS: &[(&str, &str)] = &[
     ("--distance|near", DISTANCE),
@@ -137,6 +140,15 @@ const FAULTS: &[(&str, &str)] = &[
     ("--distance|4000000000000.5|--round", DISTANCE),
     ("--distance|40000000000.01|--scale|2", DISTANCE),
     ("--distance|99999999999999999999999999", DISTANCE),
+    (
+        "--distance|4000000000000000001|--geometry|any",
+        FAR_DISTANCE,
+    ),
+    ("--distance|near|--geometry|any|--scale|15", FAR_DISTANCE),
+    (
+        "--distance|near|--geometry|any|--scale|16",
+        "--scale must be 0 to 15",
+    ),
     ("--distance|near|--scale|7", "--scale must be 0 to 6"),
     ("--distance|near|--cut|9|--scale|7", "--cut must be 0 to 8"),
     (

@@ -1,6 +1,7 @@
 //! Words of searches for the nearest features, and the order of their faults.
 
-use crate::read_words::{asks, is_refused};
+use crate::near_words::FAR_DISTANCE;
+use crate::read_words::{asks, is_refused, scale_of};
 use distance_core::{Distance, Query};
 use format_core::Layout;
 use number_core::{Rounding, Scale};
@@ -73,11 +74,10 @@ const KINDS: &[(&str, Geometries)] = &[
 
 #[test]
 fn kinds_of_geometries(rt: HostRuntime) -> Result<(), Fail> {
-    let scale = Scale::new(0).ok_or("a scale")?;
     for &(last, geometries) in KINDS {
         let wanted = Command::Nearest(NearestRequest {
             geometries,
-            ..nearest(scale, 1, None)?
+            ..nearest(scale_of(geometries, 0)?, 1, None)?
         });
         assert!(rt; asks(rt.alloc(), "nearest", last, wanted)?, "{last}");
     }
@@ -118,7 +118,16 @@ const FAULTS: &[(&str, &str)] = &[
     ("--distance|1.5", DISTANCE),
     ("--distance|4000000000001", DISTANCE),
     ("--most|0|--distance|near", DISTANCE),
+    (
+        "--distance|4000000000000000001|--geometry|any|--most|0",
+        FAR_DISTANCE,
+    ),
     ("--most|0|--scale|7", "--scale must be 0 to 6"),
+    (
+        "--most|0|--geometry|any|--scale|16",
+        "--scale must be 0 to 15",
+    ),
+    ("--most|0|--geometry|any|--scale|15", MOST),
     (
         "--most|0|--workers|17|--distance|near",
         "--workers must be 1 to 16",

@@ -1,7 +1,7 @@
 //! The words of the commands, and their faults.
 
 use format_core::Layout;
-use number_core::Scale;
+use number_core::{Limits, Scale};
 use pair_core::{Options, Product};
 use plane_core::Rings;
 use relation_core::{JoinRelation, Relation};
@@ -171,6 +171,15 @@ fn reads(alloc: Global, words: &'static str, wanted: Command<'_>) -> Result<bool
     Ok(read_words(alloc, parted(alloc, words)?.as_slice())? == wanted)
 }
 
+/// The scale with this number of decimals, which has the limits of these geometries.
+pub(crate) fn scale_of(geometries: Geometries, digits: u32) -> Result<Scale, Fail> {
+    let limits = match geometries {
+        Geometries::Box => Limits::Boxes,
+        Geometries::Any(_) => Limits::Any,
+    };
+    Ok(Scale::within(limits, digits).ok_or("a scale")?)
+}
+
 /// Words of `relate` after its two geometries, and the geometries that they ask for.
 const GEOMETRIES: &[(&str, Geometries)] = &[
     ("--scale|0", Geometries::Box),
@@ -200,15 +209,12 @@ fn asks_to_relate(
 
 #[test]
 fn relate_words(rt: HostRuntime) -> Result<(), Fail> {
-    let Some(scale) = Scale::new(0) else {
-        panic!(rt; "no scale");
-    };
     let a = "POINT (0 0)";
     for &(last, geometries) in GEOMETRIES {
         let wanted = RelateRequest {
             a,
             b: "x",
-            scale,
+            scale: scale_of(geometries, 0)?,
             geometries,
         };
         assert!(rt; asks_to_relate(rt.alloc(), last, wanted)?, "{last}");

@@ -3,7 +3,7 @@
 use crate::read_words::{asks, is_refused};
 use distance_core::{Distance, Nearness};
 use format_core::Layout;
-use number_core::Scale;
+use number_core::{Limits, Scale};
 use pair_core::{Options, Product};
 use plane_core::Rings;
 use relation_core::{JoinRelation, Relation};
@@ -67,7 +67,7 @@ fn list_of_a_join_by_distance(rt: HostRuntime) -> Result<(), Fail> {
         nearness: Nearness::Within,
         options: Options::new(4, 256, 2)?,
         workers: Workers::Exact,
-        scale: Scale::new(0).ok_or("a scale")?,
+        scale: Scale::within(Limits::Any, 0).ok_or("a scale")?,
         geometries: Geometries::Any(Rings::Proper),
     });
     assert!(rt; asks(rt.alloc(), "near", words, wanted)?);

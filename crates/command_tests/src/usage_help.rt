@@ -4,6 +4,7 @@ use crate::help_texts::{
     OF_BOUNDS, OF_DRAW, OF_JOIN, OF_NEAR, OF_NEAREST, OF_RELATE, OF_STATS, OF_THE_PROGRAM,
     OF_WINDOW,
 };
+use number_core::Limits;
 use std::alloc::Global;
 use std::test::Fail;
 use usage_core::usage_of;
@@ -58,8 +59,10 @@ fn help_and_version(rt: HostRuntime) -> Result<(), Fail> {
 
 #[test]
 fn help_tells_the_farthest_coordinate(rt: HostRuntime) -> Result<(), Fail> {
-    let limit = geom_core::LIMIT;
-    let text = format!(in rt.alloc(); "absolute value is at most {limit}.")?;
+    let (boxes, any) = (Limits::Boxes.units(), Limits::Any.units());
+    let text = format!(in rt.alloc();
+        "absolute value is at most {boxes}, or {any} with --geometry any."
+    )?;
     assert!(rt;
         help_of(rt.alloc(), "rjoin|--help")?
             .as_str()

@@ -52,7 +52,9 @@ fn faults_show_their_lines(rt: HostRuntime) -> Result<(), Fail> {
     assert!(rt; shows_its_line(alloc, &WordFault::Options(OptionFault::Batch))?);
     assert!(rt; shows_its_line(alloc, &WordFault::Options(OptionFault::Cut))?);
     assert!(rt; shows_its_line(alloc, &WordFault::Scale)?);
+    assert!(rt; shows_its_line(alloc, &WordFault::ScaleOfAny)?);
     assert!(rt; shows_its_line(alloc, &WordFault::Distance)?);
+    assert!(rt; shows_its_line(alloc, &WordFault::DistanceOfAny)?);
     assert!(rt; shows_its_line(alloc, &WordFault::Most)?);
     assert!(rt; shows_its_line(alloc, &WordFault::Geometry)?);
     assert!(rt; shows_its_line(alloc, &WordFault::RingsOfBoxes)?);

@@ -91,16 +91,24 @@ fn at_the_ends_of_the_plane(rt: HostRuntime) -> Result<(), Fail> {
     Ok(())
 }
 
-/// The greatest distance, at which all are near: (10^12)^2 for the nearest, and the others.
+/// The greatest distance, at which all are near: (10^18)^2 for the nearest, and the others.
 #[test]
 fn within_the_greatest(rt: HostRuntime) -> Result<(), Fail> {
     let rows = &[
         (0, 0, 25),
-        (0, 1, 4_999_999_999_976_000_000_000_036),
-        (1, 0, 1_000_000_000_000_000_000_000_000),
+        (0, 1, 4_999_999_999_999_999_976_000_000_000_000_000_036),
+        (1, 0, 1_000_000_000_000_000_000_000_000_000_000_000_000),
         (1, 1, 36),
     ];
-    assert!(rt; gives(&rt, CORNERS, 4_000_000_000_000, Nearness::Within, rows)?);
+    assert!(rt;
+        gives(
+            &rt,
+            CORNERS,
+            4_000_000_000_000_000_000,
+            Nearness::Within,
+            rows
+        )?
+    );
     Ok(())
 }
 

@@ -111,13 +111,13 @@ fn of_squares_and_segments(rt: HostRuntime) -> Result<(), Fail> {
     Ok(())
 }
 
-/// The diagonal of the plane: twice the square of 2 * 10^12.
+/// The diagonal of the plane: twice the square of 2 * 10^18.
 #[test]
 fn at_the_ends_of_the_plane(rt: HostRuntime) -> Result<(), Fail> {
-    let rows = &[(0, 0, 8_000_000_000_000_000_000_000_000)];
+    let rows = &[(0, 0, 8_000_000_000_000_000_000_000_000_000_000_000_000)];
     assert!(rt; gives(&rt, CORNERS, 1, None, rows)?);
-    assert!(rt; gives(&rt, CORNERS, 1, Some(2_000_000_000_000), &[])?);
-    assert!(rt; gives(&rt, CORNERS, 1, Some(4_000_000_000_000), rows)?);
+    assert!(rt; gives(&rt, CORNERS, 1, Some(2_000_000_000_000_000_000), &[])?);
+    assert!(rt; gives(&rt, CORNERS, 1, Some(4_000_000_000_000_000_000), rows)?);
     Ok(())
 }
 

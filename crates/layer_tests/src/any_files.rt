@@ -23,7 +23,7 @@ const THREE: &[u8] = b"id,wkt\na,\"LINESTRING (0 0, 3 2)\"\n\
 /// A ring that crosses itself.
 const CROSSING: &[u8] = b"id,wkt\na,\"POLYGON ((0 0, 4 4, 4 0, 0 4, 0 0))\"\n";
 
-const BROKEN_LAYERS: &[(&[u8], ReadFault)] = &[
+const BROKEN_LAYERS: [(&[u8], ReadFault); 7] = [
     (b"id,wkt\na\n", ReadFault::Row(1)),
     (
         b"id,wkt\na,POINT (1 2",
@@ -48,7 +48,7 @@ const BROKEN_LAYERS: &[(&[u8], ReadFault)] = &[
     ),
 ];
 
-const BROKEN_EDITS: &[(&[u8], ReadFault)] = &[
+const BROKEN_EDITS: [(&[u8], ReadFault); 4] = [
     (
         b"op,layer,id,wkt\ndelete,left,a,\ninsert,left,b,POINT (1 2\n",
         ReadFault::Geometry(2, GeometryFault::Text),

@@ -8,7 +8,7 @@ use crate::read_layers::{fault_of, layer_of, points_file, reader, reads_as, whol
 use file_core::edits_of_bytes;
 use geom_core::Shape;
 use layer_core::{Geometry, Layer, LayerFault};
-use row_core::{Failed, FromRead, ReadFault, Source};
+use row_core::{Beginning, Failed, FromRead, ReadFault, Source};
 use std::alloc::{AllocError, AllocGlobal, Global};
 use std::hash::RandomState;
 use std::random::RandomSource;
@@ -17,12 +17,52 @@ use std::thread::Threads;
 use wkt_any_core::GeometryFault;
 use wkt_core::WktFault;
 
-const BROKEN_LAYERS: &[(&[u8], ReadFault)] = &[
-    (b"", ReadFault::Header),
-    (b"id,geom\n", ReadFault::Header),
-    (b"id,wkt,\na,POINT (1 2),\n", ReadFault::Header),
+/// Files of layers without the columns `id` and `wkt`, and the first lines that are told.
+const WRONG_HEADERS: &[(&[u8], &str)] = &[
+    (b"", ""),
+    (b"\n", ""),
+    (b"id,geom\n", "id,geom"),
+    (b"fid,name,geom\r\n1,a,POINT (1 2)\r\n", "fid,name,geom"),
+    (b"id,wkt,\na,POINT (1 2),\n", "id,wkt,"),
+    (b"\xef\xbb\xbf\xef\xbb\xbfid,wkt\n", "??????id,wkt"),
+    (b"id\twkt\x7f~ \xc3\xa4", "id?wkt?~ ??"),
+    (
+        b"0123456789abcdef0123456789abcdef0123456789abcdef0123456789abcdef\nid,wkt\n",
+        ID_OF_64,
+    ),
+    (
+        b"0123456789abcdef0123456789abcdef0123456789abcdef0123456789abcdefg,wkt\n",
+        ID_OF_64,
+    ),
+];
+
+/// The first bytes of files of other kinds.
+const OTHER_FILES: [(&[u8], Beginning); 5] = [
+    (b"SQLite format 3\0\x10\0\x01\x01", Beginning::GeoPackage),
+    (b"\0\0\x27\x0a\0\0\0\0", Beginning::Shapefile),
+    (b"\x1f\x8b\x08\0", Beginning::Gzip),
+    (b"{\"type\": \"FeatureCollection\"}\n", Beginning::Json),
+    (b"{", Beginning::Json),
+];
+
+const BROKEN_LAYERS: [(&[u8], ReadFault); 10] = [
     (b"id,wkt\na\n", ReadFault::Row(1)),
-    (b"id,wkt\na,POINT (1 2", ReadFault::Wkt(1, WktFault::Text)),
+    (
+        b"id,wkt\na,POINT (1 2",
+        ReadFault::Wkt(1, WktFault::Text, false),
+    ),
+    (
+        b"id,wkt\na,\"MULTIPOINT (1 2, 3 4)\"\n",
+        ReadFault::Wkt(1, WktFault::Text, true),
+    ),
+    (
+        b"id,wkt\na,\"LINESTRING (0 0, 1 1)\"\n",
+        ReadFault::Wkt(1, WktFault::Form, true),
+    ),
+    (
+        b"id,wkt\na,\"LINESTRING (1 1, 1 1)\"\n",
+        ReadFault::Wkt(1, WktFault::Form, false),
+    ),
     (
         b"id,wkt\na,POINT (1 2)\na,POINT (3 4)\n",
         ReadFault::Layer(2, LayerFault::DoubleId),
@@ -33,7 +73,7 @@ const BROKEN_LAYERS: &[(&[u8], ReadFault)] = &[
     ),
     (
         b"id,wkt\na,POINT (1 2)\nb,POINT (5\na,POINT (3 4)\n",
-        ReadFault::Wkt(2, WktFault::Text),
+        ReadFault::Wkt(2, WktFault::Text, false),
     ),
     (
         b"id,wkt\n,POINT (1 2\n",
@@ -43,7 +83,6 @@ const BROKEN_LAYERS: &[(&[u8], ReadFault)] = &[
         b"id,wkt\n\xff,POINT (1 2\n",
         ReadFault::Layer(1, LayerFault::BadId),
     ),
-    (b"\xef\xbb\xbf\xef\xbb\xbfid,wkt\n", ReadFault::Header),
 ];
 
 const ID_OF_64: &str = "0123456789abcdef0123456789abcdef0123456789abcdef0123456789abcdef";
@@ -54,8 +93,7 @@ const LONGEST_ID: &[u8] = b"id,wkt\n0123456789abcdef0123456789abcdef\
 const TOO_LONG_ID: &[u8] = b"id,wkt\n0123456789abcdef0123456789abcdef\
     0123456789abcdef0123456789abcdef0,POINT (0 0)\n";
 
-const BROKEN_EDITS: &[(&[u8], ReadFault)] = &[
-    (b"id,wkt\n", ReadFault::Header),
+const BROKEN_EDITS: [(&[u8], ReadFault); 5] = [
     (
         b"op,layer,id,wkt\nreplace,left,a,POINT (0 0)\n",
         ReadFault::Row(1),
@@ -71,7 +109,7 @@ const BROKEN_EDITS: &[(&[u8], ReadFault)] = &[
     ),
     (
         b"op,layer,id,wkt\ninsert,left,a,POINT (0.5 0)\n",
-        ReadFault::Wkt(1, WktFault::Number),
+        ReadFault::Wkt(1, WktFault::Number, false),
     ),
 ];
 
@@ -137,6 +175,33 @@ fn first_other_edits(alloc: Global) -> Result<Option<usize>, Fail> {
     Ok(None)
 }
 
+/// Whether a fault is that of a header, and tells this first line.
+fn tells(fault: Option<ReadFault>, line: &str) -> bool {
+    match fault {
+        Some(ReadFault::Header(Beginning::Line(first))) => first.as_str() == line,
+        _ => false,
+    }
+}
+
+/// The first line is told of a file of a layer or of edits that has another header.
+#[test]
+fn wrong_headers(rt: HostRuntime) -> Result<(), Fail> {
+    for (bytes, line) in WRONG_HEADERS {
+        assert!(rt; tells(fault_of(&rt, bytes)?, line));
+        assert!(rt; tells(edits_fault(rt.alloc(), bytes)?, line));
+    }
+    assert!(rt; tells(edits_fault(rt.alloc(), b"id,wkt\n".as_slice())?, "id,wkt"));
+    Ok(())
+}
+
+#[test]
+fn other_files(rt: HostRuntime) -> Result<(), Fail> {
+    for (bytes, beginning) in OTHER_FILES {
+        assert!(rt; fault_of(&rt, bytes)? == Some(ReadFault::Header(beginning)));
+    }
+    Ok(())
+}
+
 #[test]
 fn broken_files(rt: HostRuntime) -> Result<(), Fail> {
     assert_eq!(rt; first_other_layer(&rt)?, None);
@@ -200,7 +265,7 @@ fn batched_file_double_id(rt: HostRuntime) -> Result<(), Fail> {
 fn batched_file_broken_row(rt: HostRuntime) -> Result<(), Fail> {
     for count in [4_095, 4_096, 40_000] {
         let unread = fault_behind(&rt, count, "q,POINT (0\np0,POINT (0 0)\n")?;
-        assert!(rt; unread == Some(ReadFault::Wkt(count + 1, WktFault::Text)));
+        assert!(rt; unread == Some(ReadFault::Wkt(count + 1, WktFault::Text, false)));
     }
     Ok(())
 }
@@ -233,13 +298,13 @@ fn shows(
 }
 
 /// Faults of files, their displayed texts, and their rows.
-const FAULTS: &[(ReadFault, &str, Option<u32>)] = &[
+const FAULTS: [(ReadFault, &str, Option<u32>); 8] = [
     (ReadFault::Io, "read failed", None),
     (ReadFault::TooLong, "file is too long", None),
-    (ReadFault::Header, "wrong header", None),
+    (ReadFault::Header(Beginning::Json), "wrong header", None),
     (ReadFault::Row(7), "row 7: wrong fields", Some(7)),
     (
-        ReadFault::Wkt(4_000_000_000, WktFault::Text),
+        ReadFault::Wkt(4_000_000_000, WktFault::Text, true),
         "row 4000000000: not a geometry text",
         Some(4_000_000_000),
     ),
@@ -263,7 +328,7 @@ fn ends_with_text(text: &str, fault: ReadFault) -> bool {
 
 #[test]
 fn fault_texts(rt: HostRuntime) -> Result<(), Fail> {
-    for &(fault, text, row) in FAULTS {
+    for (fault, text, row) in FAULTS {
         assert!(rt; shows(rt.alloc(), fault, text, row)? && ends_with_text(text, fault));
     }
     let failed = format!(in rt.alloc(); "{Failed}")?;

@@ -7,7 +7,7 @@ use any_geometry_core::AnyGeometry;
 use file_core::{SkippedRow, Unreadable, WithSkipped};
 use format_core::TextFault;
 use layer_core::{FeatureList, Layer, LayerFault};
-use row_core::ReadFault;
+use row_core::{Beginning, ReadFault};
 use std::alloc::AllocGlobal;
 use std::hash::RandomState;
 use std::random::RandomSource;
@@ -53,9 +53,8 @@ const SHORT: &[Short] = &[
 ];
 
 /// Files with a fault that no skipping avoids.
-const BROKEN: &[(&[u8], ReadFault)] = &[
-    (b"", ReadFault::Header),
-    (b"id,geom\na,POINT (1 2\n", ReadFault::Header),
+const BROKEN: [(&[u8], ReadFault); 5] = [
+    (b"{", ReadFault::Header(Beginning::Json)),
     (b"id,wkt\na,POINT (1 2\nb\n", ReadFault::Row(2)),
     (
         b"id,wkt\nb,POINT (1 2\n,POINT (1 2\n",
@@ -145,8 +144,8 @@ fn has_box(skipping: &WithSkipped<FeatureList>) -> bool {
         && skipping.read.stats().features == 1
         && row.row == 1
         && row.id.as_str() == "a"
-        && row.fault == TextFault::Wkt(WktFault::Form)
-        && row.as_fault() == ReadFault::Wkt(1, WktFault::Form)
+        && row.fault == TextFault::Wkt(WktFault::Form, true)
+        && row.as_fault() == ReadFault::Wkt(1, WktFault::Form, true)
 }
 
 #[test]

@@ -10,7 +10,7 @@ use arrangement_core::{PreparedGeometry, relate, relate_prepared};
 use plane_core::Geometry;
 use std::alloc::{AllocError, Global};
 use wkt_any_core::{Rings, read};
-use wkt_core::Scale;
+use wkt_core::{Limits, Scale};
 
 /// Two geometries.
 #[derive(Drop)]
@@ -28,7 +28,7 @@ pub(crate) struct PreparedPair<'a> {
 
 /// The geometry of a text by the even-odd rule, with integer coordinates.
 fn geometry(alloc: Global, text: &str) -> Result<Option<Geometry>, AllocError> {
-    let Some(scale) = Scale::new(0) else {
+    let Some(scale) = Scale::within(Limits::Any, 0) else {
         return Ok(None);
     };
     match read(alloc, text.as_bytes(), scale, Rings::EvenOdd)? {

@@ -4,7 +4,7 @@ use deliver_core::Refusal;
 use layer_core::LayerFault;
 use parallel_core::JoinFault;
 use report_core::{ToWrite, WriteFailed};
-use row_core::ReadFault;
+use row_core::{Beginning, FirstLine, ReadFault};
 use run_core::{Input, RunFault, fault_line};
 use std::alloc::Global;
 use std::test::Fail;
@@ -45,7 +45,7 @@ fn all_say(alloc: Global, lines: &[(RunFault, &str)]) -> bool {
     true
 }
 
-const OF_FILES_AND_TEXTS: &[(RunFault, &str)] = &[
+const OF_FILES_AND_TEXTS: [(RunFault, &str); 10] = [
     (RunFault::NoFile(Input::Left), "left: cannot be opened"),
     (RunFault::NoFile(Input::Right), "right: cannot be opened"),
     (RunFault::NoFile(Input::Edits), "edits: cannot be opened"),
@@ -78,10 +78,10 @@ const OF_FILES_AND_TEXTS: &[(RunFault, &str)] = &[
 
 #[test]
 fn files_and_texts(rt: HostRuntime) {
-    assert!(rt; all_say(rt.alloc(), OF_FILES_AND_TEXTS));
+    assert!(rt; all_say(rt.alloc(), &OF_FILES_AND_TEXTS));
 }
 
-const OF_READING: &[(RunFault, &str)] = &[
+const OF_READING: [(RunFault, &str); 6] = [
     (
         RunFault::Read(Input::Left, ReadFault::Io),
         "left: read failed",
@@ -91,15 +91,14 @@ const OF_READING: &[(RunFault, &str)] = &[
         "left: file is too long",
     ),
     (
-        RunFault::Read(Input::Left, ReadFault::Header),
-        "left: wrong header",
-    ),
-    (
         RunFault::Read(Input::Left, ReadFault::Row(7)),
         "left: row 7: wrong fields",
     ),
     (
-        RunFault::Read(Input::Left, ReadFault::Wkt(4_000_000_000, WktFault::Text)),
+        RunFault::Read(
+            Input::Left,
+            ReadFault::Wkt(4_000_000_000, WktFault::Text, false),
+        ),
         "left: row 4000000000: not a geometry text",
     ),
     (
@@ -114,10 +113,53 @@ const OF_READING: &[(RunFault, &str)] = &[
 
 #[test]
 fn reading(rt: HostRuntime) {
-    assert!(rt; all_say(rt.alloc(), OF_READING));
+    assert!(rt; all_say(rt.alloc(), &OF_READING));
 }
 
-const OF_EDITS: &[(RunFault, &str)] = &[
+/// Faults of headers, and the lines that follow them.
+const HEADERS: [(Beginning, &str); 4] = [
+    (
+        Beginning::GeoPackage,
+        "python3 -m rjoin and recipes/from-ogr read this GeoPackage",
+    ),
+    (
+        Beginning::Shapefile,
+        "python3 -m rjoin and recipes/from-ogr read this shapefile",
+    ),
+    (Beginning::Gzip, "gzip -d unpacks this file"),
+    (
+        Beginning::Json,
+        "python3 -m rjoin and recipes/from-ogr read this GeoJSON",
+    ),
+];
+
+/// Whether the line of a fault of the edits' header is followed by this one.
+fn has_hint(alloc: Global, beginning: Beginning, hint: &str) -> Option<bool> {
+    let fault = RunFault::Read(Input::Edits, ReadFault::Header(beginning));
+    let lines = format!(in alloc; "edits: wrong header\n{hint}").ok()?;
+    has_line(alloc, &fault, lines.as_str())
+}
+
+#[test]
+fn headers(rt: HostRuntime) {
+    for (beginning, hint) in HEADERS {
+        assert!(rt; has_hint(rt.alloc(), beginning, hint) == Some(true));
+    }
+    let line = Beginning::Line(FirstLine::new(b"fid,name\t\nx".as_slice()));
+    let hint = "the first line begins with 'fid,name?'";
+    assert!(rt; has_hint(rt.alloc(), line, hint) == Some(true));
+}
+
+#[test]
+fn rows_of_any_geometry(rt: HostRuntime) {
+    let fault = ReadFault::Wkt(4_000_000_000, WktFault::Form, true);
+    let lines = "layer: row 4000000000: not a point, axis-parallel segment or rectangle\n\
+        --geometry any reads this row";
+    let fault = RunFault::Read(Input::Layer, fault);
+    assert!(rt; has_line(rt.alloc(), &fault, lines) == Some(true));
+}
+
+const OF_EDITS: [(RunFault, &str); 5] = [
     (
         RunFault::Edit(2, LayerFault::BadId),
         "edits: row 2: id must have 1 to 64 bytes of UTF-8",
@@ -142,10 +184,10 @@ const OF_EDITS: &[(RunFault, &str)] = &[
 
 #[test]
 fn edits(rt: HostRuntime) {
-    assert!(rt; all_say(rt.alloc(), OF_EDITS));
+    assert!(rt; all_say(rt.alloc(), &OF_EDITS));
 }
 
-const OF_JOINS: &[(RunFault, &str)] = &[
+const OF_JOINS: [(RunFault, &str); 5] = [
     (RunFault::Join(JoinFault::Memory), "no memory"),
     (
         RunFault::Join(JoinFault::NoThread),
@@ -167,10 +209,10 @@ const OF_JOINS: &[(RunFault, &str)] = &[
 
 #[test]
 fn joins(rt: HostRuntime) {
-    assert!(rt; all_say(rt.alloc(), OF_JOINS));
+    assert!(rt; all_say(rt.alloc(), &OF_JOINS));
 }
 
-const OF_THE_MACHINE: &[(RunFault, &str)] = &[
+const OF_THE_MACHINE: [(RunFault, &str); 4] = [
     (RunFault::TooManyToDraw, "more than 100000 features to draw"),
     (RunFault::Write, "write failed"),
     (RunFault::Memory, "no memory"),
@@ -179,7 +221,7 @@ const OF_THE_MACHINE: &[(RunFault, &str)] = &[
 
 #[test]
 fn the_machine(rt: HostRuntime) -> Result<(), Fail> {
-    assert!(rt; all_say(rt.alloc(), OF_THE_MACHINE));
+    assert!(rt; all_say(rt.alloc(), &OF_THE_MACHINE));
     let failed = format!(in rt.alloc(); "{WriteFailed}")?;
     assert!(rt; shows(rt.alloc(), &RunFault::Write, failed.as_str()) == Some(true));
     Ok(())

@@ -6,12 +6,12 @@ ghost use Rattle.report_core.specs.ToWrite.{failed_of};
 use crate::example::{EDITS, LEFT, RIGHT};
 use file_core::Unreadable;
 use format_core::Layout;
-use join_core::{BoxCondition, JoinJob, join_text};
+use join_core::{JoinJob, join_text};
 use pair_core::{Options, Product};
 use relation_core::{JoinRelation, Relation};
 use report_core::{Sink, ToWrite};
 use row_core::FromRead;
-use run_core::{JoinSources, JoinText, MarkedRows, RunFault};
+use run_core::{JoinSources, JoinText, MarkedRows, RunFault, Unmarked};
 use std::hash::RandomState;
 use std::io;
 use std::io::{ErrorKind, Read, Write};
@@ -91,19 +91,16 @@ pub fn edited_example() -> Files<'static> {
     }
 }
 
+/// A join of layers of boxes.
+pub type BoxJob = JoinJob<Scale, Unmarked, JoinRelation>;
+
 /// A join of layers with integer coordinates, or `None` if the relation may hold between disjoint
 /// features.
-pub fn make_job(
-    relation: Relation,
-    options: Options,
-    product: Product,
-) -> Option<JoinJob<BoxCondition>> {
-    let condition = BoxCondition {
-        scale: Scale::new(0)?,
-        relation: JoinRelation::new(relation).ok()?,
-    };
+pub fn make_job(relation: Relation, options: Options, product: Product) -> Option<BoxJob> {
     Some(JoinJob {
-        condition,
+        format: Scale::new(0)?,
+        marks: Unmarked,
+        relation: JoinRelation::new(relation).ok()?,
         options,
         product,
     })
@@ -113,7 +110,7 @@ pub fn make_job(
 pub fn run<R: Threads + Wait + Sync + RandomSource + AllocGlobal, W: Write>(
     rt: &R,
     files: &Files<'_>,
-    job: &JoinJob<BoxCondition>,
+    job: &BoxJob,
     sink: &mut ToWrite<W>,
 ) -> Option<Result<(), RunFault>>
     requires { failed_of sink.old ≡ false }

@@ -6,7 +6,9 @@ from itertools import combinations, product
 from matrix import AREAS, LINES, POINTS, Geometry, Path, Vertex
 
 # Of coordinates, in units.
-LIMIT = 10**12
+LIMIT = 10**18
+# Up to where geometries are taken from a grid: each of these sizes of numbers has a way of its own in the program.
+REACHES = (10**9, 10**12, 10**15, LIMIT, LIMIT)
 KINDS = (POINTS, LINES, AREAS)
 # How many vertices a random path has at most, and how many paths a geometry.
 MOST_VERTICES = 6
@@ -78,16 +80,25 @@ def moved(geometry: Geometry, move: dict[Vertex, Vertex]) -> Geometry:
     return Geometry(geometry.kind, tuple(stepped([move[vertex] for vertex in path]) for path in geometry.paths))
 
 
+def directions(source: random.Random, most: int) -> tuple[Vertex, Vertex]:
+    """Where a linear map takes (1, 0) and (0, 1): anywhere, or to directions that are parallel but for some units, so
+    that all lines of the grid are nearly parallel."""
+    first = source.randint(-most, most), source.randint(-most, most)
+    if source.random() < 0.7:
+        return first, (source.randint(-most, most), source.randint(-most, most))
+    return first, (first[0] // 2 + source.randint(-3, 3), first[1] // 2 + source.randint(-3, 3))
+
+
 def spread(source: random.Random, side: int, slip: int) -> dict[Vertex, Vertex]:
-    """Where each vertex of a grid goes: by one linear map to coordinates near the limit, and then by up to some units.
+    """Where each vertex of a grid goes: by one linear map to coordinates near a limit, and then by up to some units.
     Without these, lines stay lines and what meets still meets."""
-    most = LIMIT // (2 * side)
-    (ax, ay), (bx, by) = ((source.randint(-most, most), source.randint(-most, most)) for _ in range(2))
+    reach = source.choice(REACHES)
+    (ax, ay), (bx, by) = directions(source, reach // (2 * side))
     places = {(x, y): (ax * x + bx * y, ay * x + by * y) for x, y in product(range(side), repeat=2)}
     # The whole is moved so that it reaches up to a limit of each coordinate.
     shifts = []
     for values in zip(*places.values()):
-        shifts.append(source.choice((LIMIT - slip - max(values), slip - LIMIT - min(values))))
+        shifts.append(source.choice((reach - slip - max(values), slip - reach - min(values))))
     return {vertex: (x + shifts[0] + source.randint(-slip, slip), y + shifts[1] + source.randint(-slip, slip))
             for vertex, (x, y) in places.items()}
 
@@ -99,7 +110,7 @@ def is_kept(geometry: Geometry) -> bool:
 
 def random_pair(number: int) -> Pair:
     """The random pair of a number. Of three in a row the first is on a grid of 3 to 12; the others are taken from such
-    a grid to coordinates near the limit, and in the last each vertex is moved by up to two units, so that what would
+    a grid to coordinates near a limit, and in the last each vertex is moved by up to two units, so that what would
     meet misses by a hair."""
     source = random.Random(number)
     side = source.randint(3, 12)

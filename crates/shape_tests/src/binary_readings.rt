@@ -4,7 +4,7 @@
 use geometry_text_core::read;
 use std::alloc::AllocError;
 use wkt_any_core::{GeometryFault, Rings, print};
-use wkt_core::{Rounding, Scale};
+use wkt_core::{Limits, Rounding, Scale};
 
 /// A name, a text of binary, and well-known text of the same geometry as rjoin prints it.
 const BINARY: &[(&str, &str, &str)] = &[
@@ -273,7 +273,7 @@ const FAULTS: &[(&str, &str, GeometryFault)] = &[
     ),
     (
         "out of range",
-        "01010000000000000000000000002000a2941a6dc2",
+        "0101000000000000000000000001c84e676dc1abc3",
         GeometryFault::Number,
     ),
     (
@@ -339,6 +339,55 @@ const SCALED: &[Scaled] = &[
         Err(GeometryFault::Number),
     ),
     (
+        "tenth at 15 decimals",
+        "01010000009a9999999999b93f9a9999999999c93f",
+        15,
+        Rounding::Exact,
+        Ok("POINT (0.1 0.2)"),
+    ),
+    (
+        "third at 15 decimals",
+        "0101000000555555555555d53f0000000000000000",
+        15,
+        Rounding::Exact,
+        Err(GeometryFault::Number),
+    ),
+    (
+        "third, rounded to 15 decimals",
+        "0101000000555555555555d53f0000000000000000",
+        15,
+        Rounding::Nearest,
+        Ok("POINT (0.333333333333333 0)"),
+    ),
+    (
+        "halfway",
+        "010100000001000000000040430000000000000000",
+        0,
+        Rounding::Exact,
+        Ok("POINT (9007199254740994 0)"),
+    ),
+    (
+        "the limit",
+        "010100000000c84e676dc1ab430000000000000000",
+        0,
+        Rounding::Exact,
+        Ok("POINT (1000000000000000000 0)"),
+    ),
+    (
+        "the limit at 15 decimals",
+        "01010000000000000000408f400000000000000000",
+        15,
+        Rounding::Exact,
+        Ok("POINT (1000 0)"),
+    ),
+    (
+        "beyond the limit at 15 decimals",
+        "01010000000100000000408f400000000000000000",
+        15,
+        Rounding::Exact,
+        Err(GeometryFault::Number),
+    ),
+    (
         "third, rounded",
         "0101000000555555555555d53f0000000000000000",
         6,
@@ -384,7 +433,7 @@ const SCALED: &[Scaled] = &[
 
 #[test]
 fn binary_is_read_as_its_text(rt: HostRuntime) -> Result<(), AllocError> {
-    let scale = Scale::new(0).unwrap();
+    let scale = Scale::within(Limits::Any, 0).unwrap();
     for &(name, digits, wanted) in BINARY {
         let geometry = read(rt.alloc(), digits.as_bytes(), scale, Rings::EvenOdd)?.unwrap();
         let printed = print(rt.alloc(), &geometry, scale)?;
@@ -395,7 +444,7 @@ fn binary_is_read_as_its_text(rt: HostRuntime) -> Result<(), AllocError> {
 
 #[test]
 fn srids_are_read_over(rt: HostRuntime) -> Result<(), AllocError> {
-    let scale = Scale::new(0).unwrap();
+    let scale = Scale::within(Limits::Any, 0).unwrap();
     for &(name, text, wanted) in SRIDS {
         let geometry = read(rt.alloc(), text.as_bytes(), scale, Rings::Proper)?.unwrap();
         let printed = print(rt.alloc(), &geometry, scale)?;
@@ -406,7 +455,7 @@ fn srids_are_read_over(rt: HostRuntime) -> Result<(), AllocError> {
 
 #[test]
 fn faults_are_found(rt: HostRuntime) -> Result<(), AllocError> {
-    let scale = Scale::new(0).unwrap();
+    let scale = Scale::within(Limits::Any, 0).unwrap();
     for &(name, text, wanted) in FAULTS {
         let answer = read(rt.alloc(), text.as_bytes(), scale, Rings::Proper)?;
         assert!(rt; answer.err() == Some(wanted), "{name}");
@@ -417,7 +466,9 @@ fn faults_are_found(rt: HostRuntime) -> Result<(), AllocError> {
 #[test]
 fn doubles_are_their_shortest_decimals(rt: HostRuntime) -> Result<(), AllocError> {
     for &(name, digits, decimals, rounding, wanted) in SCALED {
-        let scale = Scale::new(decimals).unwrap().with_rounding(rounding);
+        let scale = Scale::within(Limits::Any, decimals)
+            .unwrap()
+            .with_rounding(rounding);
         match (
             read(rt.alloc(), digits.as_bytes(), scale, Rings::Proper)?,
             wanted,

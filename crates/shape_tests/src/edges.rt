@@ -45,9 +45,9 @@ const ROWS: [Row; 21] = [
     (
         (-LIMIT, -LIMIT, -LIMIT, -LIMIT),
         (LIMIT, LIMIT, LIMIT, LIMIT),
-        (8_000_000_000_000_000_000_000_000, 1),
-        2_828_427_124_746,
-        2_828_427_124_747,
+        (8_000_000_000_000_000_000_000_000_000_000_000_000, 1),
+        2_828_427_124_746_190_098,
+        2_828_427_124_746_190_098,
     ),
     // The line of the one crosses the other edge, beyond its own end.
     ((0, 0, 4, 0), (7, -2, 6, 4), (256, 37), 3, 3),
@@ -111,11 +111,29 @@ fn from_corner() -> Option<SquaredFraction> {
 #[test]
 fn products_beyond_128_bits(rt: HostRuntime) {
     let square = from_corner().expect(&rt, "a vertex and an edge of the plane");
-    let side = 3_999_999_999_998_000_000_000_000;
+    let side = 3_999_999_999_999_999_998_000_000_000_000_000_000;
     let numerator = Wide::product(side, side);
     assert!(rt; square.numerator == numerator);
-    assert_eq!(rt; square.denominator, 8_000_000_000_000_000_000_000_000);
-    assert_eq!(rt; square.rounded_root(), 1_414_213_562_372);
+    assert_eq!(rt;
+        square.denominator,
+        8_000_000_000_000_000_000_000_000_000_000_000_000
+    );
+    assert_eq!(rt; square.rounded_root(), 1_414_213_562_373_095_048);
+}
+
+/// The order of that square and of the squared distance of a vertex of the same side of the plane
+/// from a shorter edge of the same diagonal, whose fraction has other numbers.
+fn corner_order(y: i64) -> Option<Ordering> {
+    let v = Vertex::new(LIMIT, y)?;
+    let shorter = edge((-LIMIT, -LIMIT, LIMIT - 1, LIMIT - 1))?;
+    Some(from_corner()?.compare(&vertex_to_edge(&v, &shorter)))
+}
+
+#[test]
+fn orders_beyond_256_bits(rt: HostRuntime) {
+    assert_eq!(rt; corner_order(1 - LIMIT), Some(Ordering::Equal));
+    assert_eq!(rt; corner_order(2 - LIMIT), Some(Ordering::Greater));
+    assert_eq!(rt; corner_order(-LIMIT), Some(Ordering::Less));
 }
 
 /// The order of the squared distances of the origin from two edges.

@@ -34,12 +34,12 @@ fn dimensions_and_areas_at_the_limits(rt: HostRuntime) {
     let upright = shape(&rt, -LIMIT, -LIMIT, -LIMIT, LIMIT);
     let square = shape(&rt, LIMIT - 1, LIMIT - 1, LIMIT, LIMIT);
     let strip = shape(&rt, -LIMIT, -LIMIT, LIMIT, 1 - LIMIT);
-    assert!(rt; LIMIT == 1_000_000_000_000);
+    assert!(rt; LIMIT == 1_000_000_000_000_000_000);
     assert!(rt; (corner.dim(), corner.area()) == (0, 0));
     assert!(rt; (across.dim(), across.area()) == (1, 0));
     assert!(rt; (upright.dim(), upright.area()) == (1, 0));
     assert!(rt; (square.dim(), square.area()) == (2, 1));
-    assert!(rt; (strip.dim(), strip.area()) == (2, 2_000_000_000_000));
+    assert!(rt; (strip.dim(), strip.area()) == (2, 2_000_000_000_000_000_000));
 }
 
 #[test]

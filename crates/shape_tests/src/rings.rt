@@ -146,7 +146,7 @@ fn a_hair_short(rt: HostRuntime) -> Result<(), Fail> {
 /// two that cross, and two on the same line.
 #[test]
 fn whole_plane(rt: HostRuntime) -> Result<(), Fail> {
-    let far = 1_000_000_000_000;
+    let far = 1_000_000_000_000_000_000;
     let e = far_edge((-far, -far), (far, far)).ok_or("no edge")?;
     let beside = far_edge((-far, -far), (far, far - 1)).ok_or("no edge")?;
     let across = far_edge((-far, 1 - far), (far, far - 1)).ok_or("no edge")?;

@@ -5,7 +5,7 @@ use std::alloc::Global;
 use std::process::Abort;
 use std::test::Fail;
 use wkt_any_core::Rings;
-use wkt_core::Scale;
+use wkt_core::{Limits, Scale};
 
 /// A name, two geometries, and their matrix.
 type Row = (&'static str, &'static str, &'static str, &'static str);
@@ -109,9 +109,11 @@ const PROPER: &[Row] = &[
     ),
     (
         "far corner",
-        "POLYGON ((-1000000000000 -1000000000000, 1000000000000 999999999999, \
-         -1000000000000 1000000000000, -1000000000000 -1000000000000))",
-        "POINT (999999999998 999999999997)",
+        "POLYGON ((-1000000000000000000 -1000000000000000000, \
+         1000000000000000000 999999999999999999, \
+         -1000000000000000000 1000000000000000000, \
+         -1000000000000000000 -1000000000000000000))",
+        "POINT (999999999999999998 999999999999999997)",
         "FF2FF10F2",
     ),
     (
@@ -187,7 +189,7 @@ fn transposed(letters: [u8; 9]) -> [u8; 9] {
 
 /// The letters of the matrix of two geometries, and which of them have improper rings.
 fn related(alloc: Global, rings: Rings, a: &str, b: &str) -> Result<([u8; 9], Improper), Fail> {
-    let scale = Scale::new(0).ok_or("no scale")?;
+    let scale = Scale::within(Limits::Any, 0).ok_or("no scale")?;
     let related = relate_texts(alloc, scale, rings, a.as_bytes(), b.as_bytes())??;
     Ok((related.matrix.text(), related.improper))
 }

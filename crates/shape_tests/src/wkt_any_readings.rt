@@ -3,7 +3,7 @@
 use plane_core::Geometry;
 use std::alloc::{AllocError, Global};
 use wkt_any_core::{GeometryFault, Rings, read};
-use wkt_core::{Rounding, Scale};
+use wkt_core::{Limits, Rounding, Scale};
 
 /// The number of edges of a geometry, and the number of its points or ends of polylines.
 fn counts_of(alloc: Global, geometry: &Geometry) -> Result<(usize, usize), AllocError> {
@@ -17,7 +17,8 @@ pub(crate) fn counts(
     text: &str,
     rings: Rings,
 ) -> Result<Result<(usize, usize), GeometryFault>, AllocError> {
-    match read(alloc, text.as_bytes(), Scale::new(0).unwrap(), rings)? {
+    let scale = Scale::within(Limits::Any, 0).unwrap();
+    match read(alloc, text.as_bytes(), scale, rings)? {
         Ok(geometry) => Ok(Ok(counts_of(alloc, &geometry)?)),
         Err(fault) => Ok(Err(fault)),
     }
@@ -63,13 +64,20 @@ const ROUNDED: &[(&str, Result<(usize, usize), GeometryFault>)] = &[
         "POLYGON ((0 0, 4 0.4, 8 0.2, 0 0))",
         Err(GeometryFault::Form),
     ),
-    ("POINT (1e13 0)", Err(GeometryFault::Number)),
+    ("POINT (1000000000000000000.4 0)", Ok((0, 1))),
+    (
+        "POINT (1000000000000000000.5 0)",
+        Err(GeometryFault::Number),
+    ),
+    ("POINT (1e19 0)", Err(GeometryFault::Number)),
     ("POINT (1e 0)", Err(GeometryFault::Text)),
 ];
 
 #[test]
 fn rounded_texts_are_read(rt: HostRuntime) -> Result<(), AllocError> {
-    let scale = Scale::new(0).unwrap().with_rounding(Rounding::Nearest);
+    let scale = Scale::within(Limits::Any, 0)
+        .unwrap()
+        .with_rounding(Rounding::Nearest);
     for &(text, wanted) in ROUNDED {
         let counted = match read(rt.alloc(), text.as_bytes(), scale, Rings::Proper)? {
             Ok(geometry) => Ok(counts_of(rt.alloc(), &geometry)?),
@@ -130,10 +138,10 @@ fn other_texts_are_not_read(rt: HostRuntime) -> Result<(), AllocError> {
 /// Texts with a number that isn't whole or is out of range.
 const NO_NUMBERS: &[&str] = &[
     "POINT (1.5 0)",
-    "POINT (1000000000001 0)",
+    "POINT (1000000000000000001 0)",
     "MULTIPOINT (1 1, (2 2.5))",
     "LINESTRING (0.1 0, 0.1 0)",
-    "MULTIPOLYGON (((0 0, 4 0, 0 4, 0 0)), ((4 0, 4 4, 0 -1000000000001, 4 0)))",
+    "MULTIPOLYGON (((0 0, 4 0, 0 4, 0 0)), ((4 0, 4 4, 0 -1000000000000000001, 4 0)))",
 ];
 
 #[test]
@@ -275,6 +283,43 @@ fn decimals_are_those_of_the_scale(rt: HostRuntime) -> Result<(), AllocError> {
             assert!(rt; (first.x, first.y, last.x, last.y) == (125, -10, 125, 300));
         }
         _ => assert!(rt; false, "not two ends"),
+    }
+    Ok(())
+}
+
+/// Texts of points, the decimals of a scale of any geometry, and the points in units of the last
+/// decimal, unless a number isn't whole or is out of range.
+const AT_THE_LIMITS: &[(&str, u32, Option<(i64, i64)>)] = &[
+    (
+        "POINT (1000000000000000000 -1000000000000000000)",
+        0,
+        Some((1_000_000_000_000_000_000, -1_000_000_000_000_000_000)),
+    ),
+    ("POINT (1000000000000000001 0)", 0, None),
+    ("POINT (0 -10000000000000000000)", 0, None),
+    (
+        "POINT (1000 -999.999999999999999)",
+        15,
+        Some((1_000_000_000_000_000_000, -999_999_999_999_999_999)),
+    ),
+    ("POINT (1000.000000000000001 0)", 15, None),
+    (
+        "POINT (0.000000000000001 0.1)",
+        15,
+        Some((1, 100_000_000_000_000)),
+    ),
+    ("POINT (0.0000000000000001 0)", 15, None),
+];
+
+#[test]
+fn numbers_at_the_limits_of_any_geometry(rt: HostRuntime) -> Result<(), AllocError> {
+    for &(text, decimals, wanted) in AT_THE_LIMITS {
+        let scale = Scale::within(Limits::Any, decimals).unwrap();
+        let point = match read(rt.alloc(), text.as_bytes(), scale, Rings::Proper)? {
+            Ok(geometry) => geometry.path(0).first().map(|point| (point.x, point.y)),
+            Err(_) => None,
+        };
+        assert!(rt; point == wanted, "{text}");
     }
     Ok(())
 }

@@ -8,14 +8,15 @@ use std::alloc::Global;
 use std::hash::RandomState;
 use std::random::RandomSource;
 use wkt_any_core::read;
-use wkt_core::Scale;
+use wkt_core::{Limits, Scale};
 
 /// A feature: its id, and the text of its geometry.
 pub type TextRow<'a> = (&'a str, &'a str);
 
 /// The geometry of a text at a scale of no decimals, or `None` if it is refused.
 pub fn geometry_of(alloc: Global, text: &str, rings: Rings) -> Option<AnyGeometry> {
-    let answer = read(alloc, text.as_bytes(), Scale::new(0)?, rings).ok()?;
+    let scale = Scale::within(Limits::Any, 0)?;
+    let answer = read(alloc, text.as_bytes(), scale, rings).ok()?;
     let geometry = answer.ok()?;
     Some(AnyGeometry::new(geometry, rings))
 }
