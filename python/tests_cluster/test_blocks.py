@@ -43,7 +43,7 @@ def jobs_of(program: str, layer: Path, block: int) -> Sequence[Any]:
 
 
 def features_of(program: Program, block: blocks.Extent) -> tuple[Features, Optional[RowFault]]:
-    read = parts.features_of(program, block.has_header, block.read(), skips=False)
+    read = parts.features_of(program, block.before(), block.read(), skips=False)
     return read.features, read.fault
 
 
@@ -111,7 +111,7 @@ def test_what_is_told_of_a_block_counts_all_of_its_parts(
         rows[number - 1] = (f"crossing{number}", CROSSING)
     block = jobs_of(program, write_layer(tmp_path / "layer.csv", rows), 4000)[0].block
     reading = Reading(geometry="any", rings="even-odd")
-    read = parts.features_of(Program(program, reading), True, block.read(), skips=True)
+    read = parts.features_of(Program(program, reading), block.before(), block.read(), skips=True)
     assert (read.skipped.rows.tolist(), read.fault) == (list(bad), None)
     kept = [number for number in range(1, 51) if number not in bad]
     assert len(read.features.boxes) == len(kept)

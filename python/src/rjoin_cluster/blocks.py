@@ -16,7 +16,7 @@ from rjoin_cluster.improper import Improper
 from rjoin_cluster.inputs import Input
 from rjoin_cluster.layout import Layout, mapped, save_rows
 from rjoin_cluster.parts import MOST_PART, features_of
-from rjoin_cluster.program import Program, RowFault
+from rjoin_cluster.program import HEADER, Program, RowFault
 from rjoin_cluster.records import (
     BYTE_ORDER_MARK,
     WINDOW,
@@ -32,6 +32,7 @@ from rjoin_cluster.skipping import Skipped
 
 MOST_GEOMETRY = MOST_PART - len("0000000,\n")
 END_BYTES = 2**18
+MOST_BEFORE = len(BYTE_ORDER_MARK) + 1
 
 
 @dataclass(frozen=True)
@@ -68,6 +69,15 @@ class Extent:
             if filled(file, text) < text.size:
                 raise self.file.changed()
         return text
+
+    def before(self) -> bytes:
+        """What a run reads before the block: a header, or if the block has that of its file, the
+        first bytes of the file, so that the run tells its first line.
+        """
+        if not self.has_header:
+            return HEADER
+        with self.file.opened() as file:
+            return file.read(min(self.begin, MOST_BEFORE))
 
 
 def filled(file: BinaryIO, text: Bytes) -> int:
@@ -140,7 +150,7 @@ def scan_segment(extent: Extent) -> Segment:
 def read_block(job: ReadJob) -> BlockRead:
     """Reads the features of a block and keeps their boxes, ids and the hashes of these."""
     text = job.block.read()
-    read = features_of(job.program, job.block.has_header, text, job.skips)
+    read = features_of(job.program, job.block.before(), text, job.skips)
     boxes, ids, fault = read.features.boxes, read.features.ids, read.fault
     keep(job.layout, job.block, Features(ids, boxes))
     if job.keeps_fields and fault is None:

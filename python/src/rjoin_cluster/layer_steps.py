@@ -54,7 +54,7 @@ def answer_block(job: AnswerJob) -> Answered:
     """Reads a block, keeps its ids, and answers the command for it."""
     block, layout = job.read.block, job.read.layout
     text = block.read()
-    read = features_of(job.read.program, block.has_header, text, False, job.words)
+    read = features_of(job.read.program, block.before(), text, False, job.words)
     keep(layout, block, read.features)
     boxes = read.features.boxes
     told = BlockRead(

@@ -20,9 +20,6 @@ from rjoin_cluster.skipping import NOTHING, Skipped, all_skipped, skipped_in, wi
 
 MOST_PART = MOST_BYTES - len(HEADER)
 
-# Put before the first block of a file, so that a second byte order mark stays part of the header.
-NO_MARK = b"\n"
-
 FULL = "layer is full"  # as rjoin says it
 
 
@@ -44,12 +41,11 @@ class PartRead:
 
 
 def features_of(
-    program: Program, has_header: bool, text: Bytes, skips: bool, asked: Sequence[str] = ()
+    program: Program, before: bytes, text: Bytes, skips: bool, asked: Sequence[str] = ()
 ) -> PartRead:
-    """The features of a block, or those before its first fault, and the answers of a command of one
-    layer, where its words are given.
+    """The features of a block, before which a run reads these bytes, or those before its first
+    fault, and the answers of a command of one layer, where its words are given.
     """
-    before = NO_MARK if has_header else HEADER
     if text.size <= MOST_PART and likely_records(text) < MOST_FEATURES:
         read = read_part(program, before, text, skips, asked)
         if read.fault is None or read.fault.text != FULL:
