@@ -4,9 +4,11 @@
 
 mod multiple;
 mod product;
+mod quotient;
 mod wide;
 mod wider;
 
 pub use multiple::compare_multiples;
 pub use product::compare_products;
+pub use quotient::{Quotient, divide_product};
 pub use wide::Wide;

@@ -1,13 +1,14 @@
 //! Comparing two products.
 
-ghost use Rattle.std.specs.Prelude.{◌≡◌, ◌*ℤ◌, ◌≤◌, ◌^◌, nat_abs, IsTrue};
+ghost use Rattle.std.specs.Prelude.{◌≡◌, ◌*ℤ◌, IsTrue, FitsSigned};
+ghost use Rattle.std.specs.Int.{w64};
 ghost use Rattle.std.specs.Ordering.{int_cmp};
 ghost use Rattle.wide_core.specs.Wides.{signed, value_of};
 
 use crate::wide::Wide;
 use std::cmp::Ordering;
 
-/// Numbers of at most this absolute value have products that fit into 128 bits.
+/// 2^63, one more than the greatest signed number of 64 bits.
 const NARROW: i128 = 1 << 63;
 
 /// Compares `a * b` with `c * d`, without overflow.
@@ -16,30 +17,28 @@ pub fn compare_products(a: i128, b: i128, c: i128, d: i128) -> Ordering
     ensures { result ≡ int_cmp (a *ℤ b) (c *ℤ d) }
 {
     if is_narrow(a) && is_narrow(b) && is_narrow(c) && is_narrow(d) {
-        compare_narrow(a, b, c, d)
+        compare_narrow(a as i64, b as i64, c as i64, d as i64)
     } else {
         compare_wide(a, b, c, d)
     }
 }
 
-/// Whether the number is from `-NARROW` to `NARROW`.
+/// Whether 64 bits hold the number.
 #[inline]
 fn is_narrow(n: i128) -> bool
-    ensures { IsTrue result → nat_abs n ≤ 2 ^ 63 }
+    ensures { IsTrue result → FitsSigned w64 n }
 {
-    -NARROW <= n && n <= NARROW
+    -NARROW <= n && n < NARROW
 }
 
-/// Compares products that fit into 128 bits.
+/// Compares products of numbers of 64 bits, which the processor multiplies faster.
 #[inline]
-fn compare_narrow(a: i128, b: i128, c: i128, d: i128) -> Ordering
-    requires a { nat_abs a ≤ 2 ^ 63 }
-    requires b { nat_abs b ≤ 2 ^ 63 }
-    requires c { nat_abs c ≤ 2 ^ 63 }
-    requires d { nat_abs d ≤ 2 ^ 63 }
+fn compare_narrow(a: i64, b: i64, c: i64, d: i64) -> Ordering
     ensures { result ≡ int_cmp (a *ℤ b) (c *ℤ d) }
 {
-    (a * b).cmp(&(c * d))
+    let left = i128::from(a) * i128::from(b);
+    let right = i128::from(c) * i128::from(d);
+    left.cmp(&right)
 }
 
 /// Compares products of any 128-bit numbers.
