@@ -1,22 +1,25 @@
 -- How the point at a place of an edge lies to vertices, to other edges and to other points of the edge.
-use Rattle.std.proofs.Common.{◌≡◌, ◌≤◌, ◌*◌, ◌+◌, inl, inr, to_z, of_z, arith, ap, sym, subst, refl, true, ◌∙◌}
+use Rattle.std.proofs.Common.{◌≡◌, ◌≤◌, ◌*◌, ◌+◌, ◌<◌, inl, inr, to_z, of_z, arith, ap, sym, subst, refl, true, false, Bool, ◌∙◌}
 use Rattle.std.specs.Prelude.{ℤ, pos, ◌*ℤ◌, ◌-ℤ◌, ◌+ℤ◌, ◌<ℤ◌, ◌≤ℤ◌, ◌&&◌, nat_abs}
 use Rattle.std.specs.Int.{w128}
 use Rattle.std.specs.Ordering.{int_cmp, int_eq, is_eq, ordering_then}
 use Rattle.std.specs.declared.cmp.Ordering.{Ordering}
 use Rattle.std.specs.declared.cmp.Ordering.TheVariants.{Less, Equal, Greater}
+use Rattle.std.proofs.lemmas.Bool.{cases_Bool}
 use Rattle.std.proofs.lemmas.Int.{ints}
 use Rattle.plane_core.specs.declared.edge.Edge.{Edge}
 use Rattle.plane_core.specs.declared.place.Place.{Place}
 use Rattle.plane_core.specs.declared.vertex.Vertex.{Vertex}
 use Rattle.plane_core.specs.Limits.{greatest_coordinate, greatest_turn, greatest_width}
-use Rattle.plane_core.specs.Points.{at, run, rise, side, turn_of, is_on, is_at}
+use Rattle.plane_core.specs.Points.{at, run, rise, side, turn_of, is_on, is_at, is_between}
 use Rattle.plane_core.specs.Meetings.{divided, part_of_way}
 use Rattle.plane_core.specs.Places.{point_of, place_order}
 use Rattle.plane_core.proofs.Ring.{monomials, times-one, times_comm}
 use Rattle.plane_core.proofs.HeldLemmas.{held_below, held_way, held_turn, abs_positive}
+use Rattle.plane_core.proofs.CheckLemmas.{and_first, and_second}
 use Rattle.plane_core.proofs.CrossingLemmas.{divided_on}
 use Rattle.plane_core.proofs.OrderLemmas.{cmp_difference, cmp_less, cmp_equal, cmp_greater, cmp_scaled, by_order, IsAhead, then_scaled, then_level}
+use Rattle.plane_core.proofs.PartScaleLemmas.{is_on-same_place}
 
 pub held_width : (z : ℤ) → nat_abs z ≤ greatest_width → to_z w128 (of_z w128 z) ≡ z
 held_width z h = held_below z _ h (omega arith)
@@ -226,3 +229,46 @@ pub order_held : (o : Ordering) (p q : Place)
     → o ≡ int_cmp (to_z w128 (of_z w128 p.n) *ℤ to_z w128 (of_z w128 q.w)) (to_z w128 (of_z w128 q.n) *ℤ to_z w128 (of_z w128 p.w))
     → o ≡ int_cmp (p.n *ℤ q.w) (q.n *ℤ p.w)
 order_held o p q h = rw (n_held p, w_held q, n_held q, w_held p) at h
+
+-- a vertex beyond the box of the place's edge
+pub off_box : (p : Place) (v : Vertex) → (is_between p.edge.a.x p.edge.b.x 1 v.x && is_between p.edge.a.y p.edge.b.y 1 v.y) ≡ false
+    → is_at v (point_of p) ≡ false
+off_box p v h = elim (cases_Bool (is_at v (point_of p))) [
+  | inl here ↦ absurd (apart (sym (within here) ∙ h))
+  | inr off ↦ off
+]
+  where
+    apart : true ≡ false → ⊥
+    apart e = cc
+
+    wide : (w : ℤ) → pos 0 <ℤ w → 0 < nat_abs w
+    wide w h = omega (arith, ints)
+
+    equal : (m n : ℤ) → int_eq m n ≡ true → m ≡ n
+    equal m n h = grind (arith, ints)
+
+    place : (x w v : ℤ) → x ≡ w *ℤ v → x *ℤ pos 1 ≡ v *ℤ w
+    place x w v h = rw h (simp monomials (omega (arith, ints)))
+
+    x : ℤ
+    x = (point_of p).x
+
+    y : ℤ
+    y = (point_of p).y
+
+    w : ℤ
+    w = pos (nat_abs p.w)
+
+    on : is_at v (point_of p) ≡ true → is_on p.edge (at v) ≡ true
+    on here =
+        sym (is_on-same_place p.edge (point_of p) (at v) (wide p.w p.positive) (omega arith) (
+          place x w v.x (equal x (w *ℤ v.x) (and_first (int_eq x (w *ℤ v.x)) (int_eq y (w *ℤ v.y)) here)),
+          place y w v.y (equal y (w *ℤ v.y) (and_second (int_eq x (w *ℤ v.x)) (int_eq y (w *ℤ v.y)) here)),
+        ))
+        ∙ place_on p
+
+    both : (l m n : Bool) → (l && m && n) ≡ true → (m && n) ≡ true
+    both l m n h = grind arith
+
+    within : is_at v (point_of p) ≡ true → (is_between p.edge.a.x p.edge.b.x 1 v.x && is_between p.edge.a.y p.edge.b.y 1 v.y) ≡ true
+    within here = both (int_eq (side p.edge (at v)) (pos 0)) (is_between p.edge.a.x p.edge.b.x 1 v.x) (is_between p.edge.a.y p.edge.b.y 1 v.y) (on here)

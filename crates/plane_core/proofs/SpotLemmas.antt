@@ -11,7 +11,7 @@ use Rattle.plane_core.specs.Places.{IsLie}
 use Rattle.plane_core.specs.Spots.{IsFloor, IsCeiling, are_above, are_below}
 use Rattle.plane_core.proofs.Ring.{monomials}
 use Rattle.plane_core.proofs.Signs.{wide_z, weak, times_positive, times_not_negative, positive_factor}
-use Rattle.plane_core.proofs.ScaleLemmas.{no_less_scaled, le_agree, le_agree_not, lt_agree, lt_agree_not}
+use Rattle.plane_core.proofs.ScaleLemmas.{less_scaled, no_less_scaled, le_agree, le_agree_not, lt_agree, lt_agree_not}
 use Rattle.plane_core.proofs.CheckLemmas.{and_first, and_second}
 use Rattle.plane_core.proofs.CrossingLemmas.{true_le}
 
@@ -244,3 +244,21 @@ lie_over e p lie wide down on below at_or_below =
 -- two numbers of which each is at most the other
 pub le_both : (m n : ℤ) → (int_le m n && int_le n m) ≡ int_eq n m
 le_both m n = grind (arith, ints)
+
+-- a vertex whose coordinate isn't the integer next to the point's
+pub off_floor : (w : ℕ) (z f v : ℤ) → 0 < w → IsFloor w z f → ¬ (v ≡ f) → int_eq z (pos w *ℤ v) ≡ false
+off_floor w z f v wide h apart = by_lt_z f v
+    (λ over. less z (pos w *ℤ v) (over_floor w z f v wide h over))
+    (λ held. more z (pos w *ℤ v) (lt_le _ _ _ (less_scaled (pos w) v f (wide_z w wide) (under v f held apart)) h.0))
+  where
+    less : (m n : ℤ) → m <ℤ n → int_eq m n ≡ false
+    less m n h = grind (arith, ints)
+
+    more : (m n : ℤ) → n <ℤ m → int_eq m n ≡ false
+    more m n h = grind (arith, ints)
+
+    same : (v f : ℤ) → v ≤ℤ f → f ≤ℤ v → v ≡ f
+    same v f h k = omega (arith, ints)
+
+    under : (v f : ℤ) → v ≤ℤ f → ¬ (v ≡ f) → v <ℤ f
+    under v f h apart = by_lt_z v f (λ l. l) (λ k. absurd (apart (same v f h k)))

@@ -1,6 +1,6 @@
 //! Edges between two vertices, and how they lie to vertices and to other edges.
 
-ghost use Rattle.std.specs.Prelude.{◌≡◌, ◌≤◌, ◌↔◌, pos, nat_abs, IsTrue};
+ghost use Rattle.std.specs.Prelude.{◌≡◌, ◌≤◌, ◌↔◌, ◌&&◌, pos, nat_abs, IsTrue};
 ghost use Rattle.std.specs.Ordering.{int_eq};
 ghost use Rattle.plane_core.specs.Limits.{greatest_turn};
 ghost use Rattle.plane_core.specs.Points.{at, run, side, turn_of, is_between, is_on};
@@ -110,6 +110,17 @@ impl Edge {
         let along_y = is_between(self.a.y, self.b.y, v.y);
         let level = self.is_level(v);
         level & along_x & along_y
+    }
+
+    /// Whether a vertex is in the edge's closed bounding box.
+    #[inline]
+    pub(crate) fn is_around(&self, v: &Vertex) -> bool
+        ensures { let e = self.now in
+            result ≡ (is_between e.a.x e.b.x 1 v.now.x && is_between e.a.y e.b.y 1 v.now.y) }
+    {
+        let across = is_between(self.a.x, self.b.x, v.x);
+        let up = is_between(self.a.y, self.b.y, v.y);
+        across & up
     }
 
     /// Whether the closed bounding boxes of two edges share a point.

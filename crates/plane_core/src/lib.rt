@@ -7,6 +7,7 @@ mod cross;
 mod edge;
 mod envelope;
 mod geometry;
+mod next;
 mod node;
 mod outline;
 mod part;

@@ -49,10 +49,14 @@ impl Place {
         }
     }
 
-    /// Whether the point equals a vertex.
+    /// Whether the point equals a vertex. No product is computed for a vertex that isn't in the box
+    /// of the point's edge.
     pub fn is_at(&self, v: &Vertex) -> bool
         ensures { result ≡ is_at v.now (point_of self.now) }
     {
+        if !self.edge.is_around(v) {
+            return false;
+        }
         let level_x = self.compare_x(v).is_eq();
         let level_y = self.compare_y(v).is_eq();
         level_x & level_y

@@ -1,20 +1,15 @@
 //! A point with the integers next to its coordinates, by which most edges lie to it.
 
-ghost use Rattle.std.specs.Prelude.{◌≡◌, ◌*◌, ◌≤◌, ◌^◌, pos, nat_abs, IsTrue};
-ghost use Rattle.std.specs.Prelude.{◌<ℤ◌, ◌≤ℤ◌, ◌-ℤ◌, ◌*ℤ◌};
-ghost use Rattle.std.specs.Ordering.{int_cmp};
+ghost use Rattle.std.specs.Prelude.{◌≡◌, ◌*ℤ◌, pos, nat_abs, IsTrue};
 ghost use Rattle.geom_core.specs.Shapes.{x1, y1, x2, y2};
-ghost use Rattle.plane_core.specs.Limits.{IsCoordinate};
-ghost use Rattle.plane_core.specs.Meetings.{part_of_way};
 ghost use Rattle.plane_core.specs.Places.{point_of};
 ghost use Rattle.plane_core.specs.Spots.{IsFloor, IsCeiling};
 
 use crate::edge::Edge;
+use crate::next::next_to;
 use crate::place::{Lie, Place};
 use crate::vertex::Vertex;
 use geom_core::Shape;
-use std::cmp::Ordering;
-use wide_core::compare_products;
 
 /// A point with the greatest integers that aren't above its coordinates, and the least that aren't
 /// below. A vertex lies to the point as it lies to these, so that no product is computed; an edge
@@ -30,155 +25,6 @@ pub struct Spot {
     ghost right_is: { IsCeiling (nat_abs place.w) (point_of place).x right },
     ghost low_is: { IsFloor (nat_abs place.w) (point_of place).y low },
     ghost high_is: { IsCeiling (nat_abs place.w) (point_of place).y high },
-}
-
-/// A number up to this times any way between two coordinates fits into 127 bits.
-const WIDE: i128 = 1 << 64;
-
-/// The greatest length of a short way.
-const SHORT: i64 = 1 << 42;
-
-/// A number up to this times a short way fits into 127 bits.
-const NARROW: i128 = 1 << 84;
-
-/// Whether a way is at most `SHORT` in length.
-#[inline]
-fn is_short(way: i64) -> bool
-    ensures { IsTrue result → nat_abs way ≤ 4398046511104 }
-{
-    -SHORT <= way && way <= SHORT
-}
-
-/// Whether the product of a part of the width and the way from `a` to `b` fits into 127 bits.
-#[inline]
-fn does_fit(a: i64, b: i64, w: i128) -> bool
-    requires a { IsCoordinate a }
-    requires b { IsCoordinate b }
-    requires positive { pos 0 <ℤ w }
-    ensures { IsTrue result → nat_abs w * nat_abs (b -ℤ a) ≤ 2 ^ 126 }
-{
-    if w <= WIDE {
-        true
-    } else if w <= NARROW {
-        is_short(b - a)
-    } else {
-        false
-    }
-}
-
-/// The first end of the way from `a` to `b` at the fraction 0, and the last one at 1.
-#[inline]
-fn end_at(a: i64, b: i64, n: i128) -> i64
-    requires not_before { pos 0 ≤ℤ n }
-    requires not_beyond { n ≤ℤ pos 1 }
-    ensures { result ≡ part_of_way a b n (pos 1) }
-{
-    if n == 0 { a } else { b }
-}
-
-/// The greatest integer that isn't above the coordinate `a + n / w (b - a)`, and the least that
-/// isn't below.
-#[inline]
-fn next_to(a: i64, b: i64, n: i128, w: i128) -> (i64, i64)
-    requires a { IsCoordinate a }
-    requires b { IsCoordinate b }
-    requires not_before { pos 0 ≤ℤ n }
-    requires not_beyond { n ≤ℤ w }
-    requires positive { pos 0 <ℤ w }
-    ensures floor { IsFloor (nat_abs w) (part_of_way a b n w) result.0 }
-    ensures ceiling { IsCeiling (nat_abs w) (part_of_way a b n w) result.1 }
-{
-    if w == 1 {
-        let whole = end_at(a, b, n);
-        (whole, whole)
-    } else if does_fit(a, b, w) {
-        divided(a, b, n, w)
-    } else {
-        bisected(a, b, n, w)
-    }
-}
-
-/// The same, by a division.
-fn divided(a: i64, b: i64, n: i128, w: i128) -> (i64, i64)
-    requires a { IsCoordinate a }
-    requires b { IsCoordinate b }
-    requires not_before { pos 0 ≤ℤ n }
-    requires not_beyond { n ≤ℤ w }
-    requires positive { pos 0 <ℤ w }
-    requires fits { nat_abs w * nat_abs (b -ℤ a) ≤ 2 ^ 126 }
-    ensures floor { IsFloor (nat_abs w) (part_of_way a b n w) result.0 }
-    ensures ceiling { IsCeiling (nat_abs w) (part_of_way a b n w) result.1 }
-{
-    let product = n * i128::from(b - a);
-    let quotient = product.div_euclid(w);
-    let floor = a + quotient as i64;
-    if quotient * w == product {
-        (floor, floor)
-    } else {
-        (floor, floor + 1)
-    }
-}
-
-/// The order of the coordinate `a + n / w (b - a)` and an integer.
-#[inline]
-fn compare_part(a: i64, b: i64, n: i128, w: i128, v: i64) -> Ordering
-    requires a { IsCoordinate a }
-    requires b { IsCoordinate b }
-    requires v { IsCoordinate v }
-    ensures { result ≡ int_cmp (part_of_way a b n w) (w *ℤ v) }
-{
-    compare_products(n, i128::from(b - a), w, i128::from(v - a))
-}
-
-/// The lesser of two coordinates.
-#[inline]
-fn lesser(a: i64, b: i64) -> i64
-    requires a { IsCoordinate a }
-    requires b { IsCoordinate b }
-    ensures within { IsCoordinate result }
-    ensures first { result ≤ℤ a }
-    ensures second { result ≤ℤ b }
-{
-    if a < b { a } else { b }
-}
-
-/// The greater of two coordinates.
-#[inline]
-fn greater(a: i64, b: i64) -> i64
-    requires a { IsCoordinate a }
-    requires b { IsCoordinate b }
-    ensures within { IsCoordinate result }
-    ensures first { a ≤ℤ result }
-    ensures second { b ≤ℤ result }
-{
-    if a < b { b } else { a }
-}
-
-/// The same, by bisection, for numbers whose product doesn't fit into 128 bits.
-fn bisected(a: i64, b: i64, n: i128, w: i128) -> (i64, i64)
-    requires a { IsCoordinate a }
-    requires b { IsCoordinate b }
-    requires not_before { pos 0 ≤ℤ n }
-    requires not_beyond { n ≤ℤ w }
-    requires positive { pos 0 <ℤ w }
-    ensures floor { IsFloor (nat_abs w) (part_of_way a b n w) result.0 }
-    ensures ceiling { IsCeiling (nat_abs w) (part_of_way a b n w) result.1 }
-{
-    let mut floor = lesser(a, b);
-    let mut above = greater(a, b) + 1;
-    while floor + 1 < above {
-        let middle = floor + (above - floor) / 2;
-        if compare_part(a, b, n, w, middle).is_ge() {
-            floor = middle;
-        } else {
-            above = middle;
-        }
-    }
-    if compare_part(a, b, n, w, floor).is_eq() {
-        (floor, floor)
-    } else {
-        (floor, floor + 1)
-    }
 }
 
 /// The corner of a shape with its least coordinates.
@@ -284,11 +130,14 @@ impl Spot {
         self.low < v.y
     }
 
-    /// Whether the point equals a vertex.
+    /// Whether the point equals a vertex. One comparison tells it from most vertices.
     #[inline]
     pub fn is_at(&self, v: &Vertex) -> bool
         ensures { result ≡ is_at v.now (point_of self.now.place) }
     {
+        if v.x != self.left {
+            return false;
+        }
         let along_x = self.is_from_x(v) & self.is_to_x(v);
         let along_y = self.is_from_y(v) & self.is_to_y(v);
         along_x & along_y
@@ -403,6 +252,7 @@ impl Spot {
     }
 
     /// The same, by the side of the edge on which the point lies.
+    #[inline(never)]
     fn lie_within(&self, e: &Edge) -> Lie
         requires { let p = point_of self.now.place in
             IsTrue (is_between e.now.a.x e.now.b.x p.w p.x) }

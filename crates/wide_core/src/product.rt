@@ -42,6 +42,7 @@ fn compare_narrow(a: i64, b: i64, c: i64, d: i64) -> Ordering
 }
 
 /// Compares products of any 128-bit numbers.
+#[inline(never)]
 fn compare_wide(a: i128, b: i128, c: i128, d: i128) -> Ordering
     ensures { result ≡ int_cmp (a *ℤ b) (c *ℤ d) }
 {

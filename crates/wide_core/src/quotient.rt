@@ -76,6 +76,7 @@ fn divide_narrow(z: u64, c: u64) -> Quotient
 /// The quotient of `a * b` and a divisor of more than 64 bits. That of the leading bits, of which
 /// the divisor has 63, is the quotient rounded down or one less. What the product leaves is less
 /// than twice the divisor, so its last 128 bits are all of it.
+#[inline(never)]
 fn divide_long(a: u128, b: u128, c: u128) -> Quotient
     requires part { a ≤ c }
     requires factor { b < 2 ^ 61 }

@@ -1,5 +1,9 @@
-use Rattle.plane_core.proofs.PlaceLemmas.{at_made}
+use Rattle.std.proofs.Common.{sym}
+use Rattle.plane_core.proofs.PlaceLemmas.{at_made, off_box}
 use Rattle.plane_core.proofs.place.Place.is_at.Goals as goal
+
+pub returns-then-not-is_around : goal.returns-then-not-is_around
+returns-then-not-is_around c = sym (off_box c.args.self.now c.args.v.now (sym c.if-not-is_around.ensures))
 
 pub returns : goal.returns
 returns c =

@@ -1,7 +1,7 @@
 use Rattle.std.proofs.Common.{w64, ◌∙◌}
 use Rattle.std.proofs.lemmas.Int.{to_z-of_z}
 use Rattle.plane_core.proofs.QuotientLemmas.{first_end, last_end, held_zero, held_one}
-use Rattle.plane_core.proofs.spot.end_at.Goals as goal
+use Rattle.plane_core.proofs.next.end_at.Goals as goal
 
 pub returns-then-n-eq0 : goal.returns-then-n-eq0
 returns-then-n-eq0 c =
