@@ -1,8 +1,8 @@
 //! The parts of a double.
 
-ghost use Rattle.std.specs.Prelude.{◌≡◌, ◌<◌, ◌^◌};
+ghost use Rattle.std.specs.Prelude.{◌≡◌, ◌<◌, ◌≤◌, ◌^◌};
 ghost use Rattle.double_core.specs.Doubles.{is_negative, exponent, fraction, is_nan};
-ghost use Rattle.double_core.specs.Doubles.{significand, place, is_edge};
+ghost use Rattle.double_core.specs.Doubles.{significand, place, denominator, is_edge};
 
 /// The exponent of the infinities and of each NaN.
 pub(crate) const NOT_FINITE: u64 = 2047;
@@ -67,4 +67,13 @@ pub(crate) fn is_edge(bits: u64) -> bool
     ensures { result ≡ is_edge bits }
 {
     fraction(bits) == 0 && exponent(bits) > 1
+}
+
+/// The number of bits by which the size of the double is a whole number of steps moved down.
+pub(crate) fn down(bits: u64) -> u64
+    requires { 955 ≤ place bits }
+    ensures power { 2 ^ result ≡ denominator bits }
+    ensures few { result ≤ 120 }
+{
+    ONE.saturating_sub(place(bits))
 }
