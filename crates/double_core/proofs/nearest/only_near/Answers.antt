@@ -1,4 +1,4 @@
-use Rattle.std.proofs.Common.{◌+◌, ◌*◌, ◌/◌, ◌%◌, ◌<◌, ◌≤◌, arith, subst}
+use Rattle.std.proofs.Common.{◌+◌, ◌*◌, ◌/◌, ◌<◌, arith, subst}
 use Rattle.double_core.specs.Decimals.{IsNear}
 use Rattle.double_core.proofs.NearLemmas.{only_reads, only_above, only_below, only_few_units}
 use Rattle.double_core.proofs.nearest.only_near.Goals as goal
