@@ -93,7 +93,6 @@ impl Seeds {
 /// The indexes of the two items that would waste the most area together, the lower one first.
 ///
 /// Ties go to the first pair, by the first index and then by the second (Guttman 1984, PickSeeds).
-#[tactic(auto, using(crate::proofs::SeedLemmas::best_all))]
 pub fn pick_seeds<T: Covered>(items: &[T]) -> (usize, usize)
     requires { 2 ≤ length items.now }
     ensures { AreSeeds T.cover items.now result.0 result.1 }

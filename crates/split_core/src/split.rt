@@ -115,7 +115,6 @@ fn can_choose(rest: usize, one: usize, two: usize) -> bool
 }
 
 /// Assigns the item for which the choice between the groups matters most.
-#[tactic(auto, using(crate::proofs::SplitLemmas::step_taken))]
 fn deal_next<T: Covered>(rest: &mut Vec<T>, one: &mut Vec<T>, two: &mut Vec<T>, covers: &mut Covers)
     requires { CanDealOne (dealing rest.old one.old two.old covers.old) }
     ensures { let old = dealing rest.old one.old two.old covers.old in
