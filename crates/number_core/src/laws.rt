@@ -10,7 +10,6 @@ ghost use Rattle.number_core.specs.Values.{nearest, SpellsNumber};
 
 /// What is read at the start of a text is a number of the grammar, and each number of the grammar
 /// is read where a text goes on so that the number ends.
-#[tactic(auto, using(crate::proofs::FrontLemmas::numbers_read))]
 pub fn number_law()
     // what is read there is a number of the grammar
     ensures grammatical { (scale : Scale) (text : List ℕ) (n : Numeral) (rest : List ℕ)
@@ -23,7 +22,6 @@ pub fn number_law()
 {}
 
 /// The text that is printed for a coordinate spells it, with rounding and without.
-#[tactic(auto, using(crate::proofs::PrintedLemmas::number_spelled))]
 pub fn printed_law()
     // the canonical spelling of a coordinate within the limit of the scale spells it
     ensures spells { (scale : Scale) (units : ℤ)
@@ -32,7 +30,6 @@ pub fn printed_law()
 
 /// The whole number that is read in place of a / b is at most half off, and half a one is rounded
 /// up.
-#[tactic(auto, using(crate::proofs::RoundedLemmas::nearest_by))]
 pub fn nearest_law()
     // the whole number that stands for a quotient is at most one half off, and a half is rounded
     // up; the sign is put before it, so a negative half is rounded away from zero

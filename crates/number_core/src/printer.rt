@@ -46,7 +46,6 @@ fn push_fraction(text: &mut String, units: u64, scale: Scale) -> Result<(), Allo
 ///
 /// # Errors
 /// If an allocation fails; the text may then end with a part of the number.
-#[tactic(auto, using(crate::proofs::FractionLemmas::power_pos))]
 pub fn push_number(text: &mut String, units: i64, scale: Scale) -> Result<(), AllocError>
     ensures { OnOk result (string_bytes text.new
         ≡ string_bytes text.old ++ number scale units) }
