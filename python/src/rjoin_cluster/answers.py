@@ -14,8 +14,9 @@ from rjoin_cluster.records import COMMA, Bytes, Places, field_ends
 Boxes = NDArray[np.int64]
 
 HEADER = b"id,x1,y1,x2,y2\n"
-FIELD_ENDS = np.frombuffer(b",,,,\n", dtype=np.uint8)  # behind the fields of a row
-ROWS_AT_ONCE = 16_384  # whose numbers stay in the processor's cache
+FIELD_ENDS = b",,,,\n"  # behind the fields of a row
+ROWS_AT_ONCE = 2**13  # whose numbers stay in the processor's cache
+ENDS_OF_ROWS = np.frombuffer(FIELD_ENDS * ROWS_AT_ONCE, dtype=np.uint8)
 OUTWARDS = (-1, -1, 1, 1)  # of the corners of a box
 
 
@@ -48,22 +49,23 @@ def ends_by_row(text: Bytes) -> Places:
     are the ends of fields, and where they are not, they aren't those of whole rows.
     """
     ends = np.flatnonzero(text <= COMMA)
-    if ends.size % FIELD_ENDS.size or not are_field_ends(text, ends):
-        ends = field_ends(text)
-    rows, more = divmod(ends.size, FIELD_ENDS.size)
-    if bytes(text[: len(HEADER)]) != HEADER or more or ends[-1] != text.size - 1:
-        raise ValueError("fields are missing")
     if not are_field_ends(text, ends):
+        ends = field_ends(text)
+        if not are_field_ends(text, ends):
+            raise ValueError("fields are missing")
+    if bytes(text[: len(HEADER)]) != HEADER or ends[-1] != text.size - 1:
         raise ValueError("fields are missing")
-    return ends.reshape(rows, FIELD_ENDS.size)
+    return ends.reshape(-1, len(FIELD_ENDS))
 
 
 def are_field_ends(text: Bytes, ends: Places) -> bool:
-    """Whether the bytes at these places are those behind the fields of rows."""
-    rows = ends.reshape(-1, FIELD_ENDS.size)
+    """Whether the bytes at these places are those behind the fields of whole rows."""
+    if not ends.size or ends.size % len(FIELD_ENDS):
+        return False
     return all(
-        (text.take(rows[begin:begin + ROWS_AT_ONCE]) == FIELD_ENDS).all()
-        for begin in range(0, len(rows), ROWS_AT_ONCE)
+        np.array_equal(text.take(some), ENDS_OF_ROWS[: some.size])
+        for begin in range(0, ends.size, ENDS_OF_ROWS.size)
+        for some in [ends[begin:begin + ENDS_OF_ROWS.size]]
     )
 
 
@@ -72,9 +74,20 @@ def boxes_of(text: Bytes, ends: Places) -> Boxes:
     boxes = np.empty((len(ends), 4), dtype=np.int64)
     signed = bool((text == MINUS).any())
     for begin in range(0, len(ends), ROWS_AT_ONCE):
-        part = np.ascontiguousarray(ends[begin:begin + ROWS_AT_ONCE].T)
-        boxes[begin:begin + ROWS_AT_ONCE] = numbers_in(text, part[:-1] + 1, part[1:], signed).T
+        some = ends[begin:begin + ROWS_AT_ONCE]
+        numbers = numbers_in(text, four_of(some, 0) + 1, four_of(some, 1), signed)
+        boxes[begin:begin + ROWS_AT_ONCE] = numbers.reshape(-1, 4)
     return boxes
+
+
+def four_of(rows: Places, first: int) -> Places:
+    """Four numbers of each row, from this column on, one row behind the other. As one element each
+    NumPy copies them faster.
+    """
+    size = rows.itemsize
+    shape, strides = len(rows), rows.strides[:1]
+    elements: NDArray[np.void] = np.ndarray(shape, f"V{4 * size}", rows, first * size, strides)
+    return np.ascontiguousarray(elements).view(np.int64)
 
 
 def grown(boxes: Boxes, growth: int) -> Boxes:

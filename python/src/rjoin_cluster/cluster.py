@@ -10,7 +10,7 @@ from contextlib import contextmanager, suppress
 from typing import Any, Iterator
 
 import dask
-from distributed import Client, Scheduler, Security, SpecCluster, Worker
+from distributed import Client, Scheduler, Security, SpecCluster, Worker, versions
 from distributed.utils import silence_logging
 
 from rjoin_cluster.faults import JoinFault
@@ -58,8 +58,8 @@ def connected(place: Place, layout: Layout) -> Iterator[Watch]:
     dask.config.set({"distributed.comm.timeouts.connect": f"{place.patience:g}s"})
     dask.config.set({} if place.dashboard else UNWATCHED)
     if place.scheduler is None:
-        with own_folder(layout) as folder, local_cluster(place, folder) as cluster:
-            with client_of(cluster, place) as client:
+        with own_folder(layout) as folder, uncompared_modules():
+            with local_cluster(place, folder) as cluster, client_of(cluster, place) as client:
                 try:
                     yield Watch(client, place.patience)
                 finally:
@@ -140,6 +140,19 @@ def wait_for_worker(watch: Watch, scheduler: str) -> None:
         if time.monotonic() > end:
             raise JoinFault(f"{scheduler}: the scheduler has no workers")
         time.sleep(0.1)
+
+
+@contextmanager
+def uncompared_modules() -> Iterator[None]:
+    """dask imports modules, pandas among them, only to compare their versions at both ends of a
+    connection, which are one process here.
+    """
+    compared = versions.optional_packages[:]
+    versions.optional_packages.clear()
+    try:
+        yield
+    finally:
+        versions.optional_packages.extend(compared)
 
 
 @contextmanager

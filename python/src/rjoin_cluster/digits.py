@@ -1,6 +1,8 @@
 """Whole numbers to and from decimal digits of one width, many at a time."""
 from __future__ import annotations
 
+from functools import cache
+
 import numpy as np
 from numpy.typing import NDArray
 
@@ -13,12 +15,8 @@ MOST_DIGITS = 19  # of a number of 64 bits with its sign
 MINUS = ord("-")
 GROUP = 4
 ZEROS = np.uint64(0x3030303030303030)
-# By the bytes of a number, a mask that keeps every second number of a word.
-EVERY_SECOND = {
-    1: np.uint64(0x00FF00FF00FF00FF),
-    2: np.uint64(0x0000FFFF0000FFFF),
-    4: np.uint64(0x00000000FFFFFFFF),
-}
+MOST_IN_WORD = WORD - 1  # digits, so that there is room for a mark behind them
+MOST_IN_TABLE = 5  # digits of a number whose text is looked up as a whole
 GROUPS = np.array([f"{number:04}" for number in range(10**GROUP)], dtype="S4").view("<u4")
 NO_TEXTS = np.zeros(0, dtype="V1")
 
@@ -43,6 +41,31 @@ def written(numbers: Places, width: int, signed: bool = False) -> Texts:
         rows.view(np.uint8)[:, begin] = np.where(numbers < 0, ord("-"), ord("+"))
     kind = f"V{width + signed}"
     return np.ndarray(numbers.size, kind, rows, begin, rows.strides[:1]) if rows.size else NO_TEXTS
+
+
+def words_of(numbers: Places, width: int, mark: int) -> Words:
+    """A word for each number, none of which is below 0: so many digits, and behind them a mark."""
+    if width <= MOST_IN_TABLE:
+        words: Words = words_table(width, 0, mark).take(numbers)
+        return words
+    above = numbers // 10**GROUP
+    words = words_table(width - GROUP, 0, 0).take(above)
+    words |= words_table(GROUP, width - GROUP, mark).take(numbers - above * 10**GROUP)
+    return words
+
+
+@cache
+def words_table(digits: int, at: int, mark: int) -> Words:
+    """The digits of each number that has no more of them, from this byte of a word on, and a mark
+    behind them.
+    """
+    numbers = np.arange(10**digits)
+    table = np.zeros((numbers.size, WORD), dtype=np.uint8)
+    for place in reversed(range(at, at + digits)):
+        table[:, place] = numbers % 10 + ord("0")
+        numbers //= 10
+    table[:, at + digits] = mark
+    return table.view("<u8").reshape(-1)
 
 
 def put(text: Bytes, at: int, texts: Texts) -> None:
@@ -84,11 +107,11 @@ def number_of_digits(digits: Words) -> Places:
     """The numbers that eight digits stand for, the first of which is in the lowest byte.
 
     Each two neighbours are put together, which gives four numbers of two digits, then two of four,
-    then one. NumPy divides faster than it shifts.
+    then one: times a factor, the upper half of a pair is what both come to.
     """
     if digits.view(np.uint8).max(initial=0) > 9:
         raise ValueError("not a digit")
-    for width, mask in EVERY_SECOND.items():
-        above = 1 << 8 * width
-        digits = digits * np.uint64(10**width * above + 1) // np.uint64(above) & mask
-    return digits.view(np.int64)
+    pairs = digits.view(np.uint16) * np.uint16(10 << 8 | 1) // np.uint16(1 << 8)
+    fours = pairs.view(np.uint32) * np.uint32(100 << 16 | 1) // np.uint32(1 << 16)
+    eights = fours.view(np.uint64) * np.uint64(10_000 << 32 | 1)
+    return eights.view(np.uint32)[..., 1::2].astype(np.int64)

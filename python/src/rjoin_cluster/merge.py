@@ -14,7 +14,7 @@ from numpy.typing import NDArray
 from rjoin_cluster.conditions import Reach
 from rjoin_cluster.digits import put
 from rjoin_cluster.ids import FILL, IdTable, as_elements, load_ids, widened
-from rjoin_cluster.layout import Layout, load_rows, mapped, save_array, save_bytes
+from rjoin_cluster.layout import Layout, load_rows, mapped, new_file, save_array
 from rjoin_cluster.nearest import Search
 from rjoin_cluster.records import Bytes, Places
 from rjoin_cluster.runs import KEY_STEP, RunDone, pair_type
@@ -93,9 +93,11 @@ def write_part(job: PartJob) -> PartDone:
     if job.reach.width:
         fields.append(table_of(pairs["last"]))
     chunks = [slice(begin, begin + ROWS_AT_ONCE) for begin in range(0, len(pairs), ROWS_AT_ONCE)]
-    text = [job.header, *(rows_text([field[some] for field in fields]) for some in chunks)]
-    save_bytes(job.layout.report_part(job.number), text)
-    return PartDone(len(pairs), sum(map(len, text)))
+    with new_file(job.layout.report_part(job.number)) as file:
+        size = file.write(job.header)
+        for some in chunks:
+            size += file.write(rows_text([field[some] for field in fields]))
+    return PartDone(len(pairs), size)
 
 
 def pairs_of(job: PartJob) -> tuple[NDArray[np.void], Places]:

@@ -10,7 +10,7 @@ import threading
 from contextlib import contextmanager
 from dataclasses import dataclass
 from types import MappingProxyType
-from typing import IO, Iterator, Mapping, Optional, Sequence, Union
+from typing import IO, Iterable, Iterator, Mapping, Optional, Sequence, Union
 
 import numpy as np
 
@@ -178,7 +178,7 @@ class Program:
         return ended.output
 
     def report(
-        self, words: Sequence[str], left: Sequence[Text], right: Sequence[Text], reading: Reading
+        self, words: Sequence[str], left: Iterable[Text], right: Iterable[Text], reading: Reading
     ) -> Bytes:
         """The report of a command for two layers that are read in this way."""
         ended = self.run([*words, *reading.words(), "--workers=1"], [left, right])
@@ -189,7 +189,7 @@ class Program:
     def run(
         self,
         words: Sequence[str],
-        layers: Sequence[Sequence[Text]],
+        layers: Sequence[Iterable[Text]],
         more: Mapping[str, Sequence[Text]] = NO_FILES,
     ) -> Ended:
         """Runs a command with layers as its first arguments, and more files as those of options;
@@ -225,7 +225,7 @@ def contents(file: IO[bytes]) -> Bytes:
     return np.asarray(np.memmap(file, dtype=np.uint8, mode="r"))
 
 
-def nameless_file(parts: Sequence[Text]) -> IO[bytes]:
+def nameless_file(parts: Iterable[Text]) -> IO[bytes]:
     """A file that vanishes with the process, so that one which is killed leaves nothing."""
     file = tempfile.TemporaryFile()
     try:

@@ -14,15 +14,17 @@ import enum
 import logging
 import time
 from dataclasses import dataclass
-from typing import Any, Iterator, NamedTuple, Optional
+from itertools import chain
+from typing import Any, Iterable, Iterator, NamedTuple, Optional
 
 import numpy as np
 from numpy.typing import NDArray
 
 from rjoin_cluster.answers import Boxes
-from rjoin_cluster.box_layers import Numerals, Spelling, layer_text, spelling_of
+from rjoin_cluster.box_layers import Numerals, Spelling, layer_texts, spelling_of
 from rjoin_cluster.choice import ALL, Choice
 from rjoin_cluster.conditions import Condition, Reach
+from rjoin_cluster.ids import fast_width
 from rjoin_cluster.layout import Layout, mapped, new_file
 from rjoin_cluster.pieces import Cargo, Piece, Range, load_piece
 from rjoin_cluster.program import HEADER, Program, Text
@@ -36,7 +38,7 @@ from rjoin_cluster.tiles import Region
 from rjoin_cluster.whole import load_some, load_whole
 
 KEY_STEP = 256
-ROWS_AT_ONCE = 2**14  # which stay in the processor's cache
+ROWS_AT_ONCE = 2**13  # which stay in the processor's cache
 
 log = logging.getLogger(__name__)
 
@@ -87,9 +89,9 @@ class RunDone:
 
 
 class RunLayer(NamedTuple):
-    """A layer as a run reads it, and the width of its ids."""
+    """A layer as a run reads it, in parts, and the width of its ids."""
 
-    text: list[Text]
+    text: Iterable[Text]
     id_width: int
 
 
@@ -146,7 +148,8 @@ def report_of(job: RunJob, left: Piece, right: Piece) -> ReportRows:
 
 
 def layer_of_boxes(boxes: Boxes, spelling: Spelling) -> RunLayer:
-    return RunLayer([HEADER, layer_text(boxes, spelling).data], ID_BYTES)
+    rows = (text.data for text in layer_texts(boxes, spelling))
+    return RunLayer(chain([HEADER], rows), ID_BYTES)
 
 
 def layer_of_records(piece: Piece) -> RunLayer:
@@ -159,28 +162,47 @@ def own_pairs(
 ) -> Iterator[NDArray[np.void]]:
     """The pairs of a report whose reference point lies in the tile, some at a time."""
     is_inside = job.region.covers(left.boxes)  # a box that is, with all of its reference points
+    named = named_features(right)
+    ranks = left.numbers * job.right_features
     for begin in range(0, rows.count, ROWS_AT_ONCE):
         ones, others, lasts = rows.some(begin, min(begin + ROWS_AT_ONCE, rows.count))
         is_own = is_inside.take(ones)
         looked = np.flatnonzero(~is_own)
         low = np.maximum(left.boxes[ones.take(looked), :2], right.boxes[others.take(looked), :2])
         is_own[looked] = job.region.holds(low[:, 0], low[:, 1])
-        if not is_own.all():
-            own = np.flatnonzero(is_own)
-            ones, others = ones.take(own), others.take(own)
-            lasts = None if lasts is None else lasts.take(own)
+        found = named.take(others)
         pairs = np.empty(ones.size, dtype=job.pair)
-        pairs["rank"] = left.numbers.take(ones) * job.right_features
-        numbers = right.numbers.take(others)
         if job.condition.is_nearest:
-            pairs["number"] = numbers
+            pairs["rank"] = ranks.take(ones)
+            pairs["number"] = found["number"]
         else:
-            pairs["rank"] += numbers
+            pairs["rank"] = ranks.take(ones) + found["number"]
         if lasts is not None:
             pairs["last"] = lasts
         if right.ids is not None:
-            pairs["right"] = right.ids.take(others)
-        yield pairs
+            pairs["right"] = found["id"]
+        yield pairs if is_own.all() else pairs.take(np.flatnonzero(is_own))
+
+
+def named_features(piece: Piece) -> NDArray[np.void]:
+    """The numbers of features with their ids, side by side. Pairs ask for them in any order, and
+    what is far from the processor is then fetched once for each of them.
+    """
+    number = piece.numbers.itemsize
+    ids = np.zeros(piece.numbers.size, "V1") if piece.ids is None else piece.ids
+    width = number + ids.itemsize
+    named = np.empty(
+        piece.numbers.size,
+        dtype={
+            "names": ["number", "id"],
+            "formats": ["<i8", ids.dtype],
+            "offsets": [0, number],
+            "itemsize": fast_width(width, 2 * width),
+        },
+    )
+    named["number"] = piece.numbers
+    named["id"] = ids
+    return named
 
 
 def keep_pairs(job: RunJob, parts: Iterator[NDArray[np.void]]) -> tuple[int, Places]:

@@ -35,3 +35,9 @@ def filled_behind(words: Words, counts: Places) -> Words:
 def last_bytes(words: Words, counts: Places) -> Words:
     """The words with zeros for all but so many of their last bytes: none below 0, all above 8."""
     return words & KEEPS_LAST.take(counts, mode="clip")
+
+
+def first_bytes(words: Words, count: int) -> NDArray[np.void]:
+    """So many of the first bytes of each word, as one element."""
+    elements: NDArray[np.void] = np.ndarray(words.size, f"V{count}", words, 0, (WORD,))
+    return elements
