@@ -72,7 +72,8 @@ INSTALLED = {
 }
 FORMAT_OPTIONS = {"--geometry", "--rings", "--scale", "--round", "--help"}
 FILE_OPTIONS = {"--columns", "--delimiter", *FORMAT_OPTIONS}
-LAYER_OPTIONS = {"--edits", "--workers", "--batch", "--cut", "--skip", *FILE_OPTIONS}
+SIDE_OPTIONS = {"--left-columns", "--right-columns", "--left-delimiter", "--right-delimiter"}
+LAYER_OPTIONS = {"--edits", "--workers", "--batch", "--cut", "--skip", *SIDE_OPTIONS, *FILE_OPTIONS}
 PRODUCT_OPTIONS = {"--pairs", "--first", "--count", "--unmatched"}
 JOIN_OPTIONS = {"--relation", *LAYER_OPTIONS}
 OPTIONS = {
@@ -275,7 +276,7 @@ def completion_offers_what_the_help_lists(it: Tried) -> None:
     expect(completions(it, "") == {*OPTIONS, "help"} == completions(it, "help", "") | {"help"}, completions(it, ""))
     expect(completions(it, "--") == {"--help", "--version"}, completions(it, "--"))
     for name, options in OPTIONS.items():
-        listed = set(re.findall(r"--\w+", "\n".join(help_of(it.program, name).entries["Options"])))
+        listed = set(re.findall(r"--[\w-]+", "\n".join(help_of(it.program, name).entries["Options"])))
         expect(completions(it, name, "--") == options == listed, (name, completions(it, name, "--")))
         expect(completions(it, name, "--scale", "") == SCALES, (name, completions(it, name, "--scale", "")))
     listed = set(re.findall(r"^  ([a-z_]+)(?:  |$)", well(ran(it.program, "join", "--help")).stdout.decode(), re.M))

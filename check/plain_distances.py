@@ -13,7 +13,7 @@ from collections.abc import Callable, Iterator
 from math import isqrt
 from pathlib import Path
 
-from plain_joins import Layer, Scale, add_layout, decimal_of, edit, field_of, layer_of
+from plain_joins import Layer, Scale, add_layout, decimal_of, edit, field_of, layer_of, layouts_of
 
 Box = tuple[int, int, int, int]
 # The ids of a pair, and the square of its distance.
@@ -90,8 +90,8 @@ def answer(words: list[str], read: Callable[[str], bytes]) -> bytes:
     """What the program has to write for these words, over the files that lie at the paths."""
     options = options_of(words)
     scale = Scale(options.scale, options.round)
-    layout = options.columns, options.delimiter
-    first, second = (layer_of(read(path), scale, *layout) for path in options.layers)
+    layouts = layouts_of(options)
+    first, second = (layer_of(read(path), scale, *layout) for path, layout in zip(options.layers, layouts))
     if options.edits:
         edit(first, second, read(options.edits), scale)
     left, right = boxes_of(first), boxes_of(second)

@@ -146,6 +146,15 @@ def add_layout(command: argparse.ArgumentParser) -> None:
     """The options for how the files of layers are laid out."""
     command.add_argument("--columns", default=COLUMNS)
     command.add_argument("--delimiter", default=",")
+    for side in ("left", "right"):
+        command.add_argument(f"--{side}-columns")
+        command.add_argument(f"--{side}-delimiter")
+
+
+def layouts_of(options: argparse.Namespace) -> list[tuple[str, str]]:
+    """The columns of each layer and the character between its fields, by its own options or else those of both."""
+    return [(options.left_columns or options.columns, options.left_delimiter or options.delimiter),
+            (options.right_columns or options.columns, options.right_delimiter or options.delimiter)]
 
 
 def edit(left: Layer, right: Layer, content: bytes, scale: Scale = WHOLE) -> None:
@@ -311,8 +320,7 @@ def answer(words: list[str], read: Callable[[str], bytes]) -> bytes:
     """What the program has to write for these words, over the files that lie at the paths."""
     options = options_of(words)
     scale = Scale(options.scale, options.round)
-    layout = options.columns, options.delimiter
-    first, *others = (layer_of(read(path), scale, *layout) for path in options.layers)
+    first, *others = (layer_of(read(path), scale, *layout) for path, layout in zip(options.layers, layouts_of(options)))
     if options.command == "bounds":
         return bounds(first)
     if options.command == "window":

@@ -20,8 +20,8 @@ _rjoin() {
     --rings) offered="proper even-odd" ;;
     --edits | --skip) _filedir && return ;;
     --workers) offered="auto" ;;
-    --delimiter) offered="tab" ;;
-    --distance | --most | --batch | --cut | --columns) return ;;
+    --delimiter | --left-delimiter | --right-delimiter) offered="tab" ;;
+    --distance | --most | --batch | --cut | --columns | --left-columns | --right-columns) return ;;
     *)
         if [[ $cword -eq 1 && $cur == -* ]]; then
             offered=$(_parse_help "$program")

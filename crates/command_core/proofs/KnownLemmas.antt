@@ -74,7 +74,7 @@ untold_edits (Some told) = Some None
 
 -- the same files with unknown bytes
 abbrev pub untold : JoinBytes → JoinBytes
-untold bytes = record { layout = bytes.layout; left = None; right = None; edits = untold_edits bytes.edits }
+untold bytes = record { layouts = bytes.layouts; left = None; right = None; edits = untold_edits bytes.edits }
 
 -- edited layers don't lack because they are too many to be drawn
 never_too_many : {G : Type 0} (files : JoinFiles G) (answer : Result (Layers G) RunFault) → LayersGive files answer → answer ≡ Err run.TooManyToDraw → ⊥
@@ -145,12 +145,12 @@ edits_some : (at : Files) (path : Option (Bor (List ℕ))) (e : Option (Option (
 edits_some at None e is = is
 edits_some at (Some path) e is = is.1 ∙ ap Some (is.2.2 ∙ sym is.2.1)
 
-bytes_are : (a b : JoinBytes) → a.layout ≡ b.layout → a.left ≡ b.left → a.right ≡ b.right → a.edits ≡ b.edits → a ≡ b
-bytes_are a b layout left right edits =
-    let made : Layout → Option (List ℕ) → Option (List ℕ) → Option (Option (List ℕ)) → JoinBytes =
-    λ t l r e. record { layout = t; left = l; right = r; edits = e } in
-    ap (λ t. made t a.left a.right a.edits) layout ∙ ap (λ l. made b.layout l a.right a.edits) left ∙ ap (λ r. made b.layout b.left r a.edits) right
-    ∙ ap (λ e. made b.layout b.left b.right e) edits
+bytes_are : (a b : JoinBytes) → a.layouts ≡ b.layouts → a.left ≡ b.left → a.right ≡ b.right → a.edits ≡ b.edits → a ≡ b
+bytes_are a b layouts left right edits =
+    let made : Layout × Layout → Option (List ℕ) → Option (List ℕ) → Option (Option (List ℕ)) → JoinBytes =
+    λ t l r e. record { layouts = t; left = l; right = r; edits = e } in
+    ap (λ t. made t a.left a.right a.edits) layouts ∙ ap (λ l. made b.layouts l a.right a.edits) left ∙ ap (λ r. made b.layouts b.left r a.edits) right
+    ∙ ap (λ e. made b.layouts b.left b.right e) edits
 
 -- the bytes that the opened files tell are those known at their paths
 told_known : (at : Files) (paths : LayerPaths) (bytes : JoinBytes) → AreOpened (Some at) paths bytes → bytes ≡ known_bytes (Some at) paths
@@ -162,8 +162,8 @@ pub fault_known : (IsFault : JoinBytes → RunFault → Type 0) → ((bytes : Jo
     → (known : Option Files) (paths : LayerPaths) (bytes : JoinBytes) → AreOpened known paths bytes → (f : RunFault)
     → IsFault bytes f → IsFault (known_bytes known paths) f
 fault_known IsFault untells None paths bytes is f fault =
-    subst (λ (t : Layout). IsFault (record { layout = t; left = None; right = None; edits = edits_at None paths.edits }) f) is.laid
-    (subst (λ (e : Option (Option (List ℕ))). IsFault (record { layout = bytes.layout; left = None; right = None; edits = e }) f)
+    subst (λ (t : Layout × Layout). IsFault (record { layouts = t; left = None; right = None; edits = edits_at None paths.edits }) f) is.laid
+    (subst (λ (e : Option (Option (List ℕ))). IsFault (record { layouts = bytes.layouts; left = None; right = None; edits = e }) f)
     (edits_none paths.edits bytes.edits is.at_edits) (untells bytes f fault))
 fault_known IsFault untells (Some at) paths bytes is f fault = subst (λ (b : JoinBytes). IsFault b f) (told_known at paths bytes is) fault
 

@@ -7,7 +7,6 @@ use Rattle.std.specs.Borrow.{Bor}
 use Rattle.layer_core.specs.Edits.{Layers}
 use Rattle.file_core.specs.declared.skipped.Unreadable.{Unreadable}
 use Rattle.format_core.specs.declared.layout.Layout.{Layout}
-use Rattle.format_core.specs.Layouts.{laid_out}
 use Rattle.run_core.specs.declared.fault.Input.{Input}
 use Rattle.run_core.specs.declared.fault.Input.TheVariants.{Left, Right, Edits}
 use Rattle.run_core.specs.declared.fault.RunFault.{RunFault}
@@ -32,7 +31,7 @@ use Rattle.command_core.specs.declared.pairs.PairRequest.TheVariants.{Join, Near
 use Rattle.command_core.specs.Asked.{AfterEdits, Asked, AskedGives, IsAskedFault, IsAskedTextFault, PathsGive, files_read, known_bytes, unreadable_for}
 use Rattle.command_core.specs.Commands.{CommandGives, IsCommandText, IsPairFault, BlamesCommand, IsFoundFirst, IsFoundNext, IsFaultOf, OrNoFile, CommandEnds}
 use Rattle.command_core.specs.Opening.{AfterOpening, Files, IsAt, IsMissing, AreEditsAt, AreEditsMissing, AreOpened, IsFirstMissing, no_left, no_right, no_edits}
-use Rattle.command_core.specs.Opening.{JoinBytes}
+use Rattle.command_core.specs.Opening.{JoinBytes, layouts_at}
 use Rattle.command_core.specs.Requests.{asks, command_of, condition_asks, kind_near_asks, kind_nearest_asks}
 use Rattle.command_core.specs.Skipping.{AskedSkips, CommandSkips, IsStoreFault, KnownSkips, SkipEnds, StoresFirst, skip_of}
 use Rattle.command_core.specs.Storing.{Stored}
@@ -194,7 +193,7 @@ module _ {S : Type 0} (known : Option Files) (written : S → Option (List ℕ))
   -- the consequence of opening the left file
   abbrev AfterLeft : Files → Result (List ℕ) RunFault → Option (List ℕ) → List ℕ → Type 0
   AfterLeft at answer lies p =
-      AfterOpening Right lies answer (λ q. AfterEdits at asked.paths.edits answer (λ d. AskedGives asked (record { layout = asked.paths.layout; left = Some p; right = Some q; edits = d }) answer))
+      AfterOpening Right lies answer (λ q. AfterEdits at asked.paths.edits answer (λ d. AskedGives asked (record { layouts = layouts_at asked.paths; left = Some p; right = Some q; edits = d }) answer))
 
   -- once all files are opened, the results are those of the run over their bytes
   paths_opened : (at : Files) (bytes : JoinBytes) (answer : Result (List ℕ) RunFault) → AreOpened (Some at) asked.paths bytes
@@ -203,12 +202,12 @@ module _ {S : Type 0} (known : Option Files) (written : S → Option (List ℕ))
       let is_l = is.at_left in
       let is_r = is.at_right in
       let Given : Option (List ℕ) → Option (List ℕ) → Type 0 = λ p q.
-      AskedGives asked (record { layout = asked.paths.layout; left = p; right = q; edits = bytes.edits }) answer in
-      let Laid : Layout → Type 0 = λ t. AskedGives asked (record { layout = t; left = bytes.left; right = bytes.right; edits = bytes.edits }) answer in
+      AskedGives asked (record { layouts = layouts_at asked.paths; left = p; right = q; edits = bytes.edits }) answer in
+      let Laid : Layout × Layout → Type 0 = λ t. AskedGives asked (record { layouts = t; left = bytes.left; right = bytes.right; edits = bytes.edits }) answer in
       let last = edits_opened at asked.paths.edits bytes.edits answer
-      (λ d. AskedGives asked (record { layout = asked.paths.layout; left = Some is_l.0; right = Some is_r.0; edits = d }) answer) is.at_edits in
+      (λ d. AskedGives asked (record { layouts = layouts_at asked.paths; left = Some is_l.0; right = Some is_r.0; edits = d }) answer) is.at_edits in
       let second = input_opened (at asked.paths.right.now) is_r.0 Right answer
-      (λ q. AfterEdits at asked.paths.edits answer (λ d. AskedGives asked (record { layout = asked.paths.layout; left = Some is_l.0; right = Some q; edits = d }) answer)) is_r.1 in
+      (λ q. AfterEdits at asked.paths.edits answer (λ d. AskedGives asked (record { layouts = layouts_at asked.paths; left = Some is_l.0; right = Some q; edits = d }) answer)) is_r.1 in
       let first = input_opened (at asked.paths.left.now) is_l.0 Left answer (AfterLeft at answer (at asked.paths.right.now)) is_l.1 in (
         (λ h. first.0 (second.0 (last.0 (subst (λ (q : Option (List ℕ)). Given (Some is_l.0) q) is_r.2
             (subst (λ (p : Option (List ℕ)). Given p bytes.right) is_l.2 (subst Laid is.laid h)))))),
@@ -251,9 +250,9 @@ module _ {S : Type 0} (known : Option Files) (written : S → Option (List ℕ))
   edits_missing None l r is_l is_r missing = tt
   edits_missing (Some at) l r is_l is_r missing = λ answer.
       let last = edits_refused at asked.paths.edits answer
-      (λ d. AskedGives asked (record { layout = asked.paths.layout; left = Some is_l.0; right = Some is_r.0; edits = d }) answer) missing in
+      (λ d. AskedGives asked (record { layouts = layouts_at asked.paths; left = Some is_l.0; right = Some is_r.0; edits = d }) answer) missing in
       let second = input_opened (at asked.paths.right.now) is_r.0 Right answer
-      (λ q. AfterEdits at asked.paths.edits answer (λ d. AskedGives asked (record { layout = asked.paths.layout; left = Some is_l.0; right = Some q; edits = d }) answer)) is_r.1 in
+      (λ q. AfterEdits at asked.paths.edits answer (λ d. AskedGives asked (record { layouts = layouts_at asked.paths; left = Some is_l.0; right = Some q; edits = d }) answer)) is_r.1 in
       let first = input_opened (at asked.paths.left.now) is_l.0 Left answer (AfterLeft at answer (at asked.paths.right.now)) is_l.1 in
       ((λ h. first.0 (second.0 (last.0 h))), (λ h. last.1 (second.1 (first.1 h))))
 
@@ -384,7 +383,7 @@ module _ {S : Type 0} (known : Option Files) (written : S → Option (List ℕ))
 -- files with these bytes, whose unreadable rows are so treated
 abbrev pub files_treated : (asked : Asked) → Unreadable → JoinBytes → JoinFiles asked.Geometry
 files_treated asked unreadable bytes =
-    record { reads = laid_out bytes.layout asked.reads; unreadable = unreadable; left = bytes.left; right = bytes.right; edits = bytes.edits }
+    record { reads = asked.reads; left_layout = bytes.layouts.0; right_layout = bytes.layouts.1; unreadable = unreadable; left = bytes.left; right = bytes.right; edits = bytes.edits }
 
 -- the first file that can't be opened of the paths that a call gave
 pub missing_at : (paths p : LayerPaths) (known : Option Files) (f : RunFault) → p ≡ paths → IsFirstMissing known p f → IsFirstMissing known paths f

@@ -1,7 +1,7 @@
 -- What a command asks of the files of two layers and of edits, and its results and its faults.
 use Rattle.std.specs.Prelude.{ℕ, List, Bool, Option, Some, None, IsSome, Result}
 use Rattle.std.specs.Borrow.{Bor}
-use Rattle.format_core.specs.Layouts.{Reading, laid_out}
+use Rattle.format_core.specs.Layouts.{Reading}
 use Rattle.file_core.specs.declared.skipped.Unreadable.{Unreadable}
 use Rattle.file_core.specs.declared.skipped.Unreadable.TheVariants.{Refuse, Skip}
 use Rattle.run_core.specs.declared.fault.Input.TheVariants.{Left, Right, Edits}
@@ -14,7 +14,7 @@ use Rattle.run_core.specs.Marks.{MarkedLists}
 use Rattle.run_core.specs.SourceStates.{HasFailed}
 use Rattle.run_core.specs.TextRuns.{IsTextRunFault, MakesText, Making, TextGives}
 use Rattle.words_core.specs.declared.words.LayerPaths.{LayerPaths}
-use Rattle.command_core.specs.Opening.{AfterOpening, Files, JoinBytes, bytes_at}
+use Rattle.command_core.specs.Opening.{AfterOpening, Files, JoinBytes, bytes_at, layouts_at}
 
 -- what a command asks of the files of two layers and of edits: where they are, how geometries read,
 -- what is made of the edited layers, and which geometries have improper rings
@@ -30,10 +30,12 @@ abbrev pub unreadable_for : Option (Bor (List ℕ)) → Unreadable
 unreadable_for None = Refuse
 unreadable_for (Some path) = Skip
 
--- the files with these bytes, as they are read, the layers with their layout
+-- the files with these bytes, as they are read, the layers with their layouts
 abbrev pub files_read : (asked : Asked) → JoinBytes → JoinFiles asked.Geometry
 files_read asked bytes = record {
-  reads = laid_out bytes.layout asked.reads;
+  reads = asked.reads;
+  left_layout = bytes.layouts.0;
+  right_layout = bytes.layouts.1;
   unreadable = unreadable_for asked.paths.skip;
   left = bytes.left;
   right = bytes.right;
@@ -79,7 +81,8 @@ PathsGive at asked answer =
     AfterOpening Right (at asked.paths.right.now) answer (λ r.
     AfterEdits at asked.paths.edits answer (λ e.
     AskedGives asked
-    (record { layout = asked.paths.layout; left = Some l; right = Some r; edits = e }) answer)))
+    (record { layouts = layouts_at asked.paths; left = Some l; right = Some r; edits = e })
+    answer)))
 
 abbrev pub edits_at : Option Files → Option (Bor (List ℕ)) → Option (Option (List ℕ))
 edits_at known None = None
@@ -88,7 +91,7 @@ edits_at known (Some path) = Some (bytes_at known path.now)
 -- the bytes of the files at these paths, as far as they are known
 abbrev pub known_bytes : Option Files → LayerPaths → JoinBytes
 known_bytes known paths = record {
-  layout = paths.layout;
+  layouts = layouts_at paths;
   left = bytes_at known paths.left.now;
   right = bytes_at known paths.right.now;
   edits = edits_at known paths.edits;

@@ -55,10 +55,10 @@ pub data IsLayerUnready (known : Option Files) (path : List ℕ) : RunFault → 
   no_file : IsMissing known path → IsLayerUnready known path (NoFile Layer)
   no_keys : (told : Option (List ℕ)) → IsAt known path told → IsLayerUnready known path NoKeys
 
--- the layout of the layers' files of a join, and the known bytes of its files; there may be no file
--- of edits
+-- the layouts of the left and the right file of a join, and the known bytes of its files; there may
+-- be no file of edits
 pub record JoinBytes : Type 0 where
-  pub layout : Layout
+  pub layouts : Layout × Layout
   pub left : Option (List ℕ)
   pub right : Option (List ℕ)
   pub edits : Option (Option (List ℕ))
@@ -66,15 +66,18 @@ pub record JoinBytes : Type 0 where
 -- those of its opened files
 abbrev pub bytes_in : {F : Type 0} → (F → Option (List ℕ)) → JoinSources F F F → JoinBytes
 bytes_in remaining sources = record {
-  layout = sources.layout;
+  layouts = (sources.left_layout, sources.right_layout);
   left = remaining sources.left;
   right = remaining sources.right;
   edits = bytes_of remaining sources.edits;
 }
 
+abbrev pub layouts_at : LayerPaths → Layout × Layout
+layouts_at paths = (paths.left_layout, paths.right_layout)
+
 -- the bytes at the paths of layers, as reported by its opened files
 pub record AreOpened (known : Option Files) (paths : LayerPaths) (told : JoinBytes) : Type 0 where
-  pub laid : told.layout ≡ paths.layout
+  pub laid : told.layouts ≡ layouts_at paths
   pub at_left : IsAt known paths.left.now told.left
   pub at_right : IsAt known paths.right.now told.right
   pub at_edits : AreEditsAt known paths.edits told.edits

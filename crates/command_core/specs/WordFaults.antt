@@ -8,7 +8,8 @@ use Rattle.words_core.specs.declared.words.WordFault.TheVariants.{Usage, Relatio
 use Rattle.words_core.specs.declared.words.WordFault.TheVariants.{Options, Scale, Distance, Most}
 use Rattle.words_core.specs.declared.words.WordFault.TheVariants.{ScaleOfAny, DistanceOfAny}
 use Rattle.words_core.specs.declared.words.WordFault.TheVariants.{Geometry, RingsOfBoxes, Rings}
-use Rattle.words_core.specs.declared.words.WordFault.TheVariants.{Delimiter, Memory}
+use Rattle.words_core.specs.declared.words.WordFault.TheVariants.{Delimiter, LeftDelimiter}
+use Rattle.words_core.specs.declared.words.WordFault.TheVariants.{RightDelimiter, Memory}
 
 abbrev pub word_status_of : WordFault → ℕ
 word_status_of (Usage text true) = 0
@@ -25,6 +26,8 @@ word_status_of Geometry = 2
 word_status_of RingsOfBoxes = 2
 word_status_of Rings = 2
 word_status_of Delimiter = 2
+word_status_of LeftDelimiter = 2
+word_status_of RightDelimiter = 2
 word_status_of Memory = 1
 
 abbrev pub distance_text : List ℕ
@@ -48,4 +51,6 @@ word_fault_line Geometry = line_of (codes "--geometry must be box or any")
 word_fault_line RingsOfBoxes = line_of (codes "--rings needs --geometry any")
 word_fault_line Rings = line_of (codes "--rings must be proper or even-odd")
 word_fault_line Delimiter = line_of (codes "--delimiter must be , ; or tab")
+word_fault_line LeftDelimiter = line_of (codes "--left-delimiter must be , ; or tab")
+word_fault_line RightDelimiter = line_of (codes "--right-delimiter must be , ; or tab")
 word_fault_line Memory = line_of (codes "no memory")

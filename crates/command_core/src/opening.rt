@@ -30,7 +30,8 @@ pub fn open_sources<'a, I: Inputs>(
         left,
         right,
         edits,
-        layout: paths.layout,
+        left_layout: paths.left_layout,
+        right_layout: paths.right_layout,
     })
 }
 

@@ -30,6 +30,8 @@ pub fn word_status(fault: &WordFault) -> u8
         WordFault::RingsOfBoxes => 2,
         WordFault::Rings => 2,
         WordFault::Delimiter => 2,
+        WordFault::LeftDelimiter => 2,
+        WordFault::RightDelimiter => 2,
         WordFault::Memory => 1,
     }
 }
@@ -75,6 +77,8 @@ pub fn word_line<S: Sink>(fault: &WordFault, sink: &mut S) -> Result<(), WriteFa
         WordFault::RingsOfBoxes => line.push("--rings needs --geometry any"),
         WordFault::Rings => line.push("--rings must be proper or even-odd"),
         WordFault::Delimiter => line.push("--delimiter must be , ; or tab"),
+        WordFault::LeftDelimiter => line.push("--left-delimiter must be , ; or tab"),
+        WordFault::RightDelimiter => line.push("--right-delimiter must be , ; or tab"),
         WordFault::Memory => line.push("no memory"),
     }
     line.write(sink)

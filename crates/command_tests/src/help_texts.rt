@@ -104,6 +104,10 @@ Options:
       --rings <rings>          Rings that --geometry any accepts, proper (the default) or even-odd
       --columns <columns>      Names of a layer's columns, ID,GEOMETRY or GEOMETRY
       --delimiter <delimiter>  Character between a layer's fields, \",\" (the default), \";\" or tab
+      --left-columns <names>   Names of the left layer's columns, in place of --columns
+      --right-columns <names>  Names of the right layer's columns, in place of --columns
+      --left-delimiter <sep>   Character between the left layer's fields, in place of --delimiter
+      --right-delimiter <sep>  Character between the right layer's fields, in place of --delimiter
   -h, --help                   Print help
 
 A layer is a CSV file such as             Edits are a CSV file such as
@@ -111,7 +115,8 @@ A layer is a CSV file such as             Edits are a CSV file such as
   mill,\"LINESTRING (10 0, 10 10)\"           insert,left,inn,POINT (4 4)
 
 With --columns ID,GEOMETRY a layer may have any columns, of which these two are read; with
---columns GEOMETRY the id of a row is its number.
+--columns GEOMETRY the id of a row is its number. An option of one side, as --left-columns or
+--right-delimiter, stands for that layer in place of the one for both.
 
 The path - stands for standard input, for at most one of the files.
 
@@ -179,6 +184,10 @@ Options:
       --rings <rings>          Rings that --geometry any accepts, proper (the default) or even-odd
       --columns <columns>      Names of a layer's columns, ID,GEOMETRY or GEOMETRY
       --delimiter <delimiter>  Character between a layer's fields, \",\" (the default), \";\" or tab
+      --left-columns <names>   Names of the left layer's columns, in place of --columns
+      --right-columns <names>  Names of the right layer's columns, in place of --columns
+      --left-delimiter <sep>   Character between the left layer's fields, in place of --delimiter
+      --right-delimiter <sep>  Character between the right layer's fields, in place of --delimiter
   -h, --help                   Print help
 
 A layer is a CSV file such as             Edits are a CSV file such as
@@ -186,7 +195,8 @@ A layer is a CSV file such as             Edits are a CSV file such as
   mill,\"LINESTRING (10 0, 10 10)\"           insert,left,inn,POINT (4 4)
 
 With --columns ID,GEOMETRY a layer may have any columns, of which these two are read; with
---columns GEOMETRY the id of a row is its number.
+--columns GEOMETRY the id of a row is its number. An option of one side, as --left-columns or
+--right-delimiter, stands for that layer in place of the one for both.
 
 The path - stands for standard input, for at most one of the files.
 
@@ -244,6 +254,10 @@ Options:
       --rings <rings>          Rings that --geometry any accepts, proper (the default) or even-odd
       --columns <columns>      Names of a layer's columns, ID,GEOMETRY or GEOMETRY
       --delimiter <delimiter>  Character between a layer's fields, \",\" (the default), \";\" or tab
+      --left-columns <names>   Names of the left layer's columns, in place of --columns
+      --right-columns <names>  Names of the right layer's columns, in place of --columns
+      --left-delimiter <sep>   Character between the left layer's fields, in place of --delimiter
+      --right-delimiter <sep>  Character between the right layer's fields, in place of --delimiter
   -h, --help                   Print help
 
 A layer is a CSV file such as             Edits are a CSV file such as
@@ -251,7 +265,8 @@ A layer is a CSV file such as             Edits are a CSV file such as
   mill,\"LINESTRING (10 0, 10 10)\"           insert,left,inn,POINT (4 4)
 
 With --columns ID,GEOMETRY a layer may have any columns, of which these two are read; with
---columns GEOMETRY the id of a row is its number.
+--columns GEOMETRY the id of a row is its number. An option of one side, as --left-columns or
+--right-delimiter, stands for that layer in place of the one for both.
 
 The path - stands for standard input, for at most one of the files.
 
@@ -312,6 +327,10 @@ Options:
       --rings <rings>          Rings that --geometry any accepts, proper (the default) or even-odd
       --columns <columns>      Names of a layer's columns, ID,GEOMETRY or GEOMETRY
       --delimiter <delimiter>  Character between a layer's fields, \",\" (the default), \";\" or tab
+      --left-columns <names>   Names of the left layer's columns, in place of --columns
+      --right-columns <names>  Names of the right layer's columns, in place of --columns
+      --left-delimiter <sep>   Character between the left layer's fields, in place of --delimiter
+      --right-delimiter <sep>  Character between the right layer's fields, in place of --delimiter
   -h, --help                   Print help
 
 The layers are read, edited and joined as by rjoin join; its --help describes files, geometries,

@@ -17,7 +17,8 @@ fn paths(edits: Option<&'static str>, skip: &'static str) -> LayerPaths<'static>
         right: "q.csv",
         edits,
         skip: Some(skip),
-        layout: Layout::plain(),
+        left_layout: Layout::plain(),
+        right_layout: Layout::plain(),
     }
 }
 

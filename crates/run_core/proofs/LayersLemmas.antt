@@ -21,7 +21,7 @@ use Rattle.file_core.specs.declared.skipped.Unreadable.TheVariants.{Refuse, Skip
 use Rattle.file_core.specs.declared.skipped.WithSkipped.{WithSkipped}
 use Rattle.file_core.specs.SkippedRows.{IsLayerFileBy, LoadsFile, LoadsRow, SkippedContent, begun, skipped_content, with_skipped_or}
 use Rattle.file_core.proofs.LoadedLemmas.{file_fault, file_layer}
-use Rattle.run_core.specs.EditedLayers.{JoinFiles, LayersGive, left_fault, right_fault, first_fault, IsLayersFault, IsJoinFault}
+use Rattle.run_core.specs.EditedLayers.{JoinFiles, LayersGive, left_fault, left_reads, right_fault, right_reads, first_fault, IsLayersFault, IsJoinFault}
 use Rattle.run_core.proofs.EditedLayersLemmas.{handed_on, IsJoinKind}
 
 -- a source that isn't read to its end gives no layer
@@ -130,27 +130,27 @@ left_first g (read_faults.Layer n h) = inr refl
 left_first g read_faults.Memory = inr refl
 
 -- a fault of two layers, the right one of which wasn't built, is one of their files
-told_blamed : {G : Type 0} (format : Reading G) (u : Unreadable) (left right : Option (List ℕ)) (items : List ℕ) (built out : Result (WithSkipped (LayerState G)) ReadFault)
-    (f : ReadFault) → IfSome left (λ bytes. items ≡ bytes) → Builds format u items built → Reads format u right out → out ≡ Err f
-    → IsLayersFault format u left right (first_fault (result_err built) f)
-told_blamed format u left right items (Ok layer) out f same built reads is =
-    let loads = built_well format u left items (Ok layer) layer same built refl in
+told_blamed : {G : Type 0} (as_left as_right : Reading G) (u : Unreadable) (left right : Option (List ℕ)) (items : List ℕ) (built out : Result (WithSkipped (LayerState G)) ReadFault)
+    (f : ReadFault) → IfSome left (λ bytes. items ≡ bytes) → Builds as_left u items built → Reads as_right u right out → out ≡ Err f
+    → IsLayersFault as_left as_right u left right (first_fault (result_err built) f)
+told_blamed as_left as_right u left right items (Ok layer) out f same built reads is =
+    let loads = built_well as_left u left items (Ok layer) layer same built refl in
     let rows = map skipped_content layer.skipped.items in
-    subst (IsLayersFault format u left right) (sym (right_first f))
-    ((λ other. (layer.read.list, loads_layer format u left layer.read.list rows loads)), read_blamed format u right out f reads is)
-told_blamed format u left right items (Err g) out f same built reads is = elim (left_first g f) [
-  | inl io ↦ subst (λ (x : ReadFault). IsLayersFault format u left right (first_fault (Some g) x)) (sym io) ((λ other. absurd (other refl)), (λ blame. absurd blame))
-  | inr told ↦ subst (IsLayersFault format u left right) (sym told) (built_blamed format u left items (Err g) g same built refl)
+    subst (IsLayersFault as_left as_right u left right) (sym (right_first f))
+    ((λ other. (layer.read.list, loads_layer as_left u left layer.read.list rows loads)), read_blamed as_right u right out f reads is)
+told_blamed as_left as_right u left right items (Err g) out f same built reads is = elim (left_first g f) [
+  | inl io ↦ subst (λ (x : ReadFault). IsLayersFault as_left as_right u left right (first_fault (Some g) x)) (sym io) ((λ other. absurd (other refl)), (λ blame. absurd blame))
+  | inr told ↦ subst (IsLayersFault as_left as_right u left right) (sym told) (built_blamed as_left u left items (Err g) g same built refl)
 ]
 
-pub first_blamed : {G : Type 0} (format : Reading G) (u : Unreadable) (left right : Option (List ℕ)) (items : List ℕ)
-    (built out : Result (WithSkipped (LayerState G)) ReadFault) (f : ReadFault) (e : RunFault) → IfSome left (λ bytes. items ≡ bytes) → Builds format u items built
-    → Reads format u right out → out ≡ Err f → e ≡ first_fault (result_err built) f → IsLayersFault format u left right e
-first_blamed format u left right items built out f e same gives reads is told =
-    subst (IsLayersFault format u left right) (sym told) (told_blamed format u left right items built out f same gives reads is)
+pub first_blamed : {G : Type 0} (as_left as_right : Reading G) (u : Unreadable) (left right : Option (List ℕ)) (items : List ℕ)
+    (built out : Result (WithSkipped (LayerState G)) ReadFault) (f : ReadFault) (e : RunFault) → IfSome left (λ bytes. items ≡ bytes) → Builds as_left u items built
+    → Reads as_right u right out → out ≡ Err f → e ≡ first_fault (result_err built) f → IsLayersFault as_left as_right u left right e
+first_blamed as_left as_right u left right items built out f e same gives reads is told =
+    subst (IsLayersFault as_left as_right u left right) (sym told) (told_blamed as_left as_right u left right items built out f same gives reads is)
 
 -- a fault of the two layers is a result of the files
-layers_give : {G : Type 0} (files : JoinFiles G) (e : RunFault) → IsLayersFault files.reads files.unreadable files.left files.right e → BlamesInput e
+layers_give : {G : Type 0} (files : JoinFiles G) (e : RunFault) → IsLayersFault (left_reads files) (right_reads files) files.unreadable files.left files.right e → BlamesInput e
     → LayersGive files (Err e)
 layers_give files (Read Left f) fault blame = left_fault f (fault blame)
 layers_give files (Read Right f) fault blame = let left = fault.0 (λ e. subst BlamesBytes e blame) in right_fault left.0 f left.1 (fault.1 blame)
@@ -171,13 +171,13 @@ layers_give files Memory fault blame = absurd fault
 layers_give files NoKeys fault blame = absurd fault
 
 pub layers_blamed : {T : Type 0} {G : Type 0} (files : JoinFiles G) (out : Result T RunFault) (e : RunFault)
-    → IsErrAnd out (λ x. x ≡ e) → IsLayersFault files.reads files.unreadable files.left files.right e
+    → IsErrAnd out (λ x. x ≡ e) → IsLayersFault (left_reads files) (right_reads files) files.unreadable files.left files.right e
     → IfErr out (λ x. BlamesInput x → LayersGive files (Err x))
 layers_blamed files out e h fault =
     handed_on (LayersGive files) out e e h refl (λ blame. layers_give files e fault blame)
 
-module _ {G : Type 0} (format : Reading G) (unreadable : Unreadable) (left right : Option (List ℕ)) where
-  pub layers_join_kind : (e : RunFault) → IsLayersFault format unreadable left right e → IsJoinKind e
+module _ {G : Type 0} (as_left as_right : Reading G) (unreadable : Unreadable) (left right : Option (List ℕ)) where
+  pub layers_join_kind : (e : RunFault) → IsLayersFault as_left as_right unreadable left right e → IsJoinKind e
   layers_join_kind (Read Left f) fault = tt
   layers_join_kind (Read Right f) fault = tt
   layers_join_kind (Read First f) fault = absurd fault
@@ -196,10 +196,10 @@ module _ {G : Type 0} (format : Reading G) (unreadable : Unreadable) (left right
   layers_join_kind Memory fault = absurd fault
   layers_join_kind NoKeys fault = absurd fault
 
-  pub none_of_edits : (e : RunFault) → IsLayersFault format unreadable left right e → e ≢ Read Edits read_faults.Io
-  none_of_edits e fault is = subst (IsLayersFault format unreadable left right) is fault
+  pub none_of_edits : (e : RunFault) → IsLayersFault as_left as_right unreadable left right e → e ≢ Read Edits read_faults.Io
+  none_of_edits e fault is = subst (IsLayersFault as_left as_right unreadable left right) is fault
 
-pub layers_join_fault : {G : Type 0} (files : JoinFiles G) (e : RunFault) → IsLayersFault files.reads files.unreadable files.left files.right e → IsJoinFault files e
+pub layers_join_fault : {G : Type 0} (files : JoinFiles G) (e : RunFault) → IsLayersFault (left_reads files) (right_reads files) files.unreadable files.left files.right e → IsJoinFault files e
 layers_join_fault files (Read Left f) fault = tt
 layers_join_fault files (Read Right f) fault = fault.0
 layers_join_fault files (Read First f) fault = absurd fault

@@ -4,6 +4,7 @@ use Rattle.std.specs.Prelude.{Err, IfSome, length, map, take}
 use Rattle.layer_core.specs.declared.fault.LayerFault.{LayerFault}
 use Rattle.layer_core.specs.declared.fault.LayerFault.TheVariants.{Memory as no_memory}
 use Rattle.format_core.specs.Layouts.{Reading, laid_out}
+use Rattle.format_core.specs.declared.layout.Layout.{Layout}
 use Rattle.row_core.specs.declared.read_fault.ReadFault.{ReadFault}
 use Rattle.row_core.specs.declared.read_fault.ReadFault.TheVariants.{Io, Memory as no_bytes}
 use Rattle.layer_core.specs.Layers.{Contents}
@@ -19,10 +20,12 @@ use Rattle.run_core.specs.declared.loaded.SkippedRows.{SkippedRows}
 use Rattle.run_core.specs.declared.sources.JoinSources.{JoinSources}
 use Rattle.run_core.specs.Inputs.{LayerFileBy, GivesLayerBy, SkipsRows, BlamesBytes, BlamesEdit}
 
--- how the files of a join's layers are laid out and their geometries read, what becomes of rows whose geometry doesn't, and the known
--- bytes of its sources; there may be no file of edits
+-- how geometries read and the files of a join's layers are laid out, what becomes of rows whose
+-- geometry doesn't read, and the known bytes of its sources; there may be no file of edits
 pub record JoinFiles (G : Type 0) : Type 1 where
   pub reads : Reading G
+  pub left_layout : Layout
+  pub right_layout : Layout
   pub unreadable : Unreadable
   pub left : Option (List ℕ)
   pub right : Option (List ℕ)
@@ -33,23 +36,32 @@ abbrev pub bytes_of : {E : Type 0} → (E → Option (List ℕ)) → Option E �
 bytes_of remaining None = None
 bytes_of remaining (Some e) = Some (remaining e)
 
--- the known bytes of the sources, which are read in this way, the layers by the sources' layout
+-- the known bytes of the sources, which are read in this way, each layer by its own layout
 abbrev pub files_by : {G A B E : Type 0} → Unreadable → Reading G → (A → Option (List ℕ))
     → (B → Option (List ℕ)) → (E → Option (List ℕ)) → JoinSources A B E → JoinFiles G
 files_by unreadable reads left_bytes right_bytes edits_bytes sources = record {
-  reads = laid_out sources.layout reads;
+  reads = reads;
+  left_layout = sources.left_layout;
+  right_layout = sources.right_layout;
   unreadable = unreadable;
   left = left_bytes sources.left;
   right = right_bytes sources.right;
   edits = bytes_of edits_bytes sources.edits;
 }
 
+-- how the left file reads, and how the right one
+abbrev pub left_reads : {G : Type 0} → JoinFiles G → Reading G
+left_reads files = laid_out files.left_layout files.reads
+
+abbrev pub right_reads : {G : Type 0} → JoinFiles G → Reading G
+right_reads files = laid_out files.right_layout files.reads
+
 -- the layer of the left file or of the right one, or its fault
 abbrev pub LeftGives : {G : Type 0} → JoinFiles G → Result (Contents G) ReadFault → Type 0
-LeftGives files = LayerFileBy files.reads files.unreadable files.left
+LeftGives files = LayerFileBy (left_reads files) files.unreadable files.left
 
 abbrev pub RightGives : {G : Type 0} → JoinFiles G → Result (Contents G) ReadFault → Type 0
-RightGives files = LayerFileBy files.reads files.unreadable files.right
+RightGives files = LayerFileBy (right_reads files) files.unreadable files.right
 
 -- the edits or the fault of a file of edits; no edits without a file
 abbrev pub EditFile : {G : Type 0} → Reading G → Option (Option (List ℕ))
@@ -59,14 +71,14 @@ EditFile reads (Some known) answer = IfSome known (λ bytes. IsEditFile reads by
 
 -- a fault of reading two layers: one of the right file comes only if the left is valid, except that
 -- its source fails
-abbrev pub IsLayersFault : {G : Type 0} → Reading G → Unreadable → Option (List ℕ)
-    → Option (List ℕ) → RunFault → Type 0
-IsLayersFault reads unreadable left right (Read Left f) =
-    BlamesBytes f → LayerFileBy reads unreadable left (Err f)
-IsLayersFault reads unreadable left right (Read Right f) =
-    (f ≢ Io → GivesLayerBy reads unreadable left)
-    × (BlamesBytes f → LayerFileBy reads unreadable right (Err f))
-IsLayersFault reads unreadable left right _ = ⊥
+abbrev pub IsLayersFault : {G : Type 0} → Reading G → Reading G → Unreadable
+    → Option (List ℕ) → Option (List ℕ) → RunFault → Type 0
+IsLayersFault as_left as_right unreadable left right (Read Left f) =
+    BlamesBytes f → LayerFileBy as_left unreadable left (Err f)
+IsLayersFault as_left as_right unreadable left right (Read Right f) =
+    (f ≢ Io → GivesLayerBy as_left unreadable left)
+    × (BlamesBytes f → LayerFileBy as_right unreadable right (Err f))
+IsLayersFault as_left as_right unreadable left right _ = ⊥
 
 -- the fault of two layers if the right one has a fault: a failing right source comes before a fault
 -- of the left one
@@ -106,8 +118,8 @@ skipped_lists rows = record {
 
 -- exactly the rows that are skipped of the two files
 pub record AreRowsSkipped {G : Type 0} (files : JoinFiles G) (rows : SkippedLists) : Type 0 where
-  pub left : SkipsRows files.reads files.unreadable files.left rows.left
-  pub right : SkipsRows files.reads files.unreadable files.right rows.right
+  pub left : SkipsRows (left_reads files) files.unreadable files.left rows.left
+  pub right : SkipsRows (right_reads files) files.unreadable files.right rows.right
 
 -- a possible fault after all files are read and the edits are applied, except that of the sink:
 -- lack of memory or of threads
@@ -159,8 +171,8 @@ pub data IsEditsFault {G : Type 0} (reads : Reading G) (file : Option (Option (L
 
 -- both layer files are valid
 abbrev pub GiveLayers : {G : Type 0} → JoinFiles G → Type 0
-GiveLayers files = GivesLayerBy files.reads files.unreadable files.left
-    × GivesLayerBy files.reads files.unreadable files.right
+GiveLayers files = GivesLayerBy (left_reads files) files.unreadable files.left
+    × GivesLayerBy (right_reads files) files.unreadable files.right
 
 -- the file of edits is valid too, and its edits are applied up to that of this row
 pub record AreMadeTo {G : Type 0} (files : JoinFiles G) (row : ℕ) : Type 0 where
@@ -178,7 +190,7 @@ pub record AreMadeTo {G : Type 0} (files : JoinFiles G) (row : ℕ) : Type 0 whe
 abbrev pub IsJoinFault : {G : Type 0} → JoinFiles G → RunFault → Type 0
 IsJoinFault files (Read Left f) = ⊤
 IsJoinFault files (Read Right f) =
-    f ≢ Io → GivesLayerBy files.reads files.unreadable files.left
+    f ≢ Io → GivesLayerBy (left_reads files) files.unreadable files.left
 IsJoinFault files (Read Edits f) = GiveLayers files
 IsJoinFault files (Edit row f) = f ≡ no_memory → AreMadeTo files row
 IsJoinFault {G} files fault =

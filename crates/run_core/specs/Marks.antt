@@ -5,7 +5,7 @@ use Rattle.layer_core.specs.Layers.{Contents, Feature}
 use Rattle.file_core.specs.LayerFiles.{IsLayerFile}
 use Rattle.file_core.specs.SkippedRows.{Loaded, LoadsFile, SkippedContent}
 use Rattle.file_core.specs.declared.skipped.Unreadable.{Unreadable}
-use Rattle.run_core.specs.EditedLayers.{JoinFiles}
+use Rattle.run_core.specs.EditedLayers.{JoinFiles, left_reads, right_reads}
 use Rattle.run_core.specs.declared.marks.MarkedRows.{MarkedRows}
 
 -- the numbers of rows that were skipped
@@ -63,8 +63,8 @@ no_rows = record { left = []; right = [] }
 -- the rows with the property, of the two files of layers
 pub record AreRowsMarked {G : Type 0} (IsMarked : G → Type 0) (files : JoinFiles G)
     (rows : MarkedLists) : Type 0 where
-  pub left : MarksFile files.reads files.unreadable IsMarked files.left rows.left
-  pub right : MarksFile files.reads files.unreadable IsMarked files.right rows.right
+  pub left : MarksFile (left_reads files) files.unreadable IsMarked files.left rows.left
+  pub right : MarksFile (right_reads files) files.unreadable IsMarked files.right rows.right
 
 -- ---- skipping
 

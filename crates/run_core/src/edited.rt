@@ -66,27 +66,31 @@ where
         (HasFailed A.has_failed B.has_failed E.has_failed sources.new) (marked_lists rows.new)
         result }
 {
-    let layout = sources.layout;
-    let laid = LayerReader {
+    let left_reader = LayerReader {
         rt: reader.rt,
         alloc: reader.alloc,
         format: LaidOut {
-            layout,
+            layout: sources.left_layout,
+            format: reader.format,
+        },
+        threads: reader.threads,
+    };
+    let right_reader = LayerReader {
+        rt: reader.rt,
+        alloc: reader.alloc,
+        format: LaidOut {
+            layout: sources.right_layout,
             format: reader.format,
         },
         threads: reader.threads,
     };
     let (left, right) = (&mut sources.left, &mut sources.right);
-    let loaded = read_layers(&laid, unreadable, states, left, right)?;
+    let loaded = read_layers(&left_reader, &right_reader, unreadable, states, left, right)?;
     // Lack of memory for the rows is a fault that comes after those of the edits.
     let found = rows_of(reader.alloc, marks, &loaded);
     let LoadedLayers { layers, skipped } = loaded;
     let edits = &mut sources.edits;
-    let format = LaidOut {
-        layout,
-        format: reader.format,
-    };
-    let edited = edit_layers(reader.alloc, format, states, edits, layers)?;
+    let edited = edit_layers(reader.alloc, reader.format, states, edits, layers)?;
     *rows = found?;
     Ok(LoadedLayers {
         layers: edited,

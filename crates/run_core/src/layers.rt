@@ -17,15 +17,16 @@ use std::hash::RandomState;
 use std::thread::Threads;
 use std::{mem, thread};
 
-/// Reads the layers of the left and the right source. `states` hash their ids, and `unreadable`
-/// says what becomes of rows whose geometry can't be read.
+/// Reads the layers of the left and the right source, each by its own reader. `states` hash their
+/// ids, and `unreadable` says what becomes of rows whose geometry can't be read.
 ///
 /// The left source is read first. Then its layer is built while the right source is read and its
 /// layer built, in parallel if there is more than one thread; each build may itself use several
-/// threads, as `reader` says. If the left source fails, its fault is returned at once and the right
-/// source isn't read. A failing right source comes before a fault in the bytes of the left.
+/// threads, as its reader says. If the left source fails, its fault is returned at once and the
+/// right source isn't read. A failing right source comes before a fault in the bytes of the left.
 pub(crate) fn read_layers<R: Threads + Sync, F: Format, A: Source, B: Source>(
-    reader: &LayerReader<'_, F, R>,
+    left_reader: &LayerReader<'_, F, R>,
+    right_reader: &LayerReader<'_, F, R>,
     unreadable: Unreadable,
     states: (RandomState, RandomState),
     left: &mut A,
@@ -34,23 +35,31 @@ pub(crate) fn read_layers<R: Threads + Sync, F: Format, A: Source, B: Source>(
     requires left { A.has_failed left.old ≡ false }
     requires right { B.has_failed right.old ≡ false }
     ensures left { IfOk result (λ loaded.
-        LoadsLayer (F.reads reader.now.format) unreadable (A.remaining left.old)
+        LoadsLayer (F.reads left_reader.now.format) unreadable (A.remaining left.old)
         loaded.layers.0.list (skipped_lists loaded.skipped).left) }
     ensures right { IfOk result (λ loaded.
-        LoadsLayer (F.reads reader.now.format) unreadable (B.remaining right.old)
+        LoadsLayer (F.reads right_reader.now.format) unreadable (B.remaining right.old)
         loaded.layers.1.list (skipped_lists loaded.skipped).right) }
-    ensures fault { IfErr result (IsLayersFault (F.reads reader.now.format) unreadable
-        (A.remaining left.old) (B.remaining right.old)) }
+    ensures fault { IfErr result (IsLayersFault (F.reads left_reader.now.format)
+        (F.reads right_reader.now.format) unreadable (A.remaining left.old)
+        (B.remaining right.old)) }
     ensures left_io { IsErrOf result (RunFault.Read Input.Left ReadFault.Io)
         ↔ IsTrue (A.has_failed left.new) }
     ensures right_io { IsErrOf result (RunFault.Read Input.Right ReadFault.Io)
         ↔ IsTrue (B.has_failed right.new) }
 {
-    let left_bytes = match read_all(reader.alloc, left) {
+    let left_bytes = match read_all(left_reader.alloc, left) {
         Ok(bytes) => bytes,
         Err(fault) => return Err(RunFault::Read(Input::Left, fault)),
     };
-    let (left_built, right_built) = build_and_read(reader, unreadable, states, left_bytes, right);
+    let (left_built, right_built) = build_and_read(
+        left_reader,
+        right_reader,
+        unreadable,
+        states,
+        left_bytes,
+        right,
+    );
     match right_built {
         Ok(right_layer) => match left_built {
             Ok(left_layer) => Ok(loaded_layers(left_layer, right_layer)),
@@ -90,7 +99,8 @@ fn first_fault(left: Option<ReadFault>, right: ReadFault) -> RunFault
 
 /// The layer of the left file's bytes, and the layer of the right source.
 fn build_and_read<R: Threads + Sync, F: Format, B: Source>(
-    reader: &LayerReader<'_, F, R>,
+    left_reader: &LayerReader<'_, F, R>,
+    right_reader: &LayerReader<'_, F, R>,
     unreadable: Unreadable,
     states: (RandomState, RandomState),
     mut left: Vec<u8>,
@@ -100,22 +110,23 @@ fn build_and_read<R: Threads + Sync, F: Format, B: Source>(
     Result<WithSkipped<Layer<F::Geometry>>, ReadFault>,
 )
     requires { B.has_failed right.old ≡ false }
-    ensures left { Builds (F.reads reader.now.format) unreadable left.items result.0 }
-    ensures right { Reads (F.reads reader.now.format) unreadable (B.remaining right.old) result.1 }
+    ensures left { Builds (F.reads left_reader.now.format) unreadable left.items result.0 }
+    ensures right { Reads (F.reads right_reader.now.format) unreadable (B.remaining right.old)
+        result.1 }
     ensures right_io { IsErrOf result.1 ReadFault.Io ↔ IsTrue (B.has_failed right.new) }
 {
     let (left_state, right_state) = states;
     let mut build_left = || -> Result<WithSkipped<Layer<F::Geometry>>, ReadFault>
-        ensures { Builds (F.reads reader.entry.now.format) unreadable left.entry.items result }
-    { build_taken(reader, unreadable, left_state, &mut left) };
+        ensures { Builds (F.reads left_reader.entry.now.format) unreadable left.entry.items result }
+    { build_taken(left_reader, unreadable, left_state, &mut left) };
     let mut read_right = || -> Result<WithSkipped<Layer<F::Geometry>>, ReadFault>
         requires { B.has_failed right.now ≡ false }
-        ensures reads { Reads (F.reads reader.entry.now.format) unreadable
+        ensures reads { Reads (F.reads right_reader.entry.now.format) unreadable
             (B.remaining right.entry.now) result }
         ensures io { IsErrOf result ReadFault.Io ↔ IsTrue (B.has_failed right.exit.now) }
-    { read_layer(reader, unreadable, right_state, right) };
-    if reader.threads > 1 {
-        thread::join_mut(reader.rt, &mut build_left, &mut read_right)
+    { read_layer(right_reader, unreadable, right_state, right) };
+    if left_reader.threads > 1 {
+        thread::join_mut(left_reader.rt, &mut build_left, &mut read_right)
     } else {
         (build_left(), read_right())
     }

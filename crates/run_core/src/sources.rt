@@ -8,6 +8,8 @@ pub struct JoinSources<'a, A, B, E> {
     pub left: A,
     pub right: B,
     pub edits: Option<E>,
-    /// The layout of the files of both layers.
-    pub layout: Layout<'a>,
+    /// The layout of the left layer's file.
+    pub left_layout: Layout<'a>,
+    /// The layout of the right layer's file.
+    pub right_layout: Layout<'a>,
 }

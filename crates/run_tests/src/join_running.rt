@@ -120,7 +120,8 @@ pub fn run<R: Threads + Wait + Sync + RandomSource + AllocGlobal, W: Write>(
         left: FromRead::new(files.left),
         right: FromRead::new(files.right),
         edits: files.edits.map(|edits| FromRead::new(edits)),
-        layout: Layout::plain(),
+        left_layout: Layout::plain(),
+        right_layout: Layout::plain(),
     };
     let mut marked = MarkedRows::none(rt.alloc());
     let made = join_text(

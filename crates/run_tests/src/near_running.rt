@@ -62,7 +62,8 @@ fn opened<'a>(files: Files<'a>) -> Opened<'a>
         left: FromRead::new(files.left.as_bytes()),
         right: FromRead::new(files.right.as_bytes()),
         edits: files.edits.map(|edits| FromRead::new(edits.as_bytes())),
-        layout: Layout::plain(),
+        left_layout: Layout::plain(),
+        right_layout: Layout::plain(),
     }
 }
 

@@ -37,6 +37,10 @@ required_rule name = record (new_rule name) { long = Some name; required = true 
 abbrev pub optional_rule : Text → Rule
 optional_rule name = record (new_rule name) { long = Some name }
 
+-- `--name`, a text, which has a name of its own in the help
+abbrev pub side_rule : Text → Rule
+side_rule name = record (new_rule name) { long = Some name; value_names = 1 }
+
 -- `--name`, which takes no value
 abbrev pub flag_rule : Text → Rule
 flag_rule name = record (new_rule name) { long = Some name; action = Some SetTrue }
@@ -75,6 +79,15 @@ format_rules = number_rules ++ geometry_rule ∷ rings_rule ∷ []
 abbrev pub file_rules : List Rule
 file_rules = format_rules ++ optional_rule (codes "columns") ∷ optional_rule (codes "delimiter") ∷ []
 
+-- the rules of how the file of either layer is laid out
+abbrev pub side_rules : List Rule
+side_rules =
+    side_rule (codes "left-columns") ∷ side_rule (codes "right-columns")
+    ∷ side_rule (codes "left-delimiter") ∷ side_rule (codes "right-delimiter") ∷ []
+
+abbrev pub both_file_rules : List Rule
+both_file_rules = file_rules ++ side_rules
+
 -- ---- commands
 
 abbrev pub layer_rules : List Rule
@@ -108,16 +121,16 @@ option_rules value =
     ∷ numeric_rule (codes "cut") (codes "2") ∷ []
 
 abbrev pub join_rules : WorkersValue → List Rule
-join_rules value = layer_rules ++ relation_rules ++ option_rules value ++ file_rules
+join_rules value = layer_rules ++ relation_rules ++ option_rules value ++ both_file_rules
 
 abbrev pub draw_rules : WorkersValue → List Rule
-draw_rules value = layer_rules ++ picture_rules ++ option_rules value ++ file_rules
+draw_rules value = layer_rules ++ picture_rules ++ option_rules value ++ both_file_rules
 
 abbrev pub near_rules : WorkersValue → List Rule
-near_rules value = layer_rules ++ distance_rules ++ option_rules value ++ file_rules
+near_rules value = layer_rules ++ distance_rules ++ option_rules value ++ both_file_rules
 
 abbrev pub nearest_rules : WorkersValue → List Rule
-nearest_rules value = layer_rules ++ query_rules ++ option_rules value ++ file_rules
+nearest_rules value = layer_rules ++ query_rules ++ option_rules value ++ both_file_rules
 
 abbrev pub relate_rules : List Rule
 relate_rules = positional_rule (codes "A") ∷ positional_rule (codes "B") ∷ format_rules

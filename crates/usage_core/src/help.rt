@@ -48,7 +48,8 @@ A layer is a CSV file such as             Edits are a CSV file such as
   mill,\"LINESTRING (10 0, 10 10)\"           insert,left,inn,POINT (4 4)
 
 With --columns ID,GEOMETRY a layer may have any columns, of which these two are read; with
---columns GEOMETRY the id of a row is its number.
+--columns GEOMETRY the id of a row is its number. An option of one side, as --left-columns or
+--right-delimiter, stands for that layer in place of the one for both.
 
 The path - stands for standard input, for at most one of the files.
 
@@ -98,7 +99,8 @@ A layer is a CSV file such as             Edits are a CSV file such as
   mill,\"LINESTRING (10 0, 10 10)\"           insert,left,inn,POINT (4 4)
 
 With --columns ID,GEOMETRY a layer may have any columns, of which these two are read; with
---columns GEOMETRY the id of a row is its number.
+--columns GEOMETRY the id of a row is its number. An option of one side, as --left-columns or
+--right-delimiter, stands for that layer in place of the one for both.
 
 The path - stands for standard input, for at most one of the files.
 
@@ -138,7 +140,8 @@ A layer is a CSV file such as             Edits are a CSV file such as
   mill,\"LINESTRING (10 0, 10 10)\"           insert,left,inn,POINT (4 4)
 
 With --columns ID,GEOMETRY a layer may have any columns, of which these two are read; with
---columns GEOMETRY the id of a row is its number.
+--columns GEOMETRY the id of a row is its number. An option of one side, as --left-columns or
+--right-delimiter, stands for that layer in place of the one for both.
 
 The path - stands for standard input, for at most one of the files.
 

@@ -12,7 +12,7 @@ use Rattle.relation_core.specs.declared.relation.Relation.{Relation}
 use Rattle.number_core.specs.ScaleLimits.{most_digits}
 use Rattle.number_core.specs.Scales.{digits_of, limits_of}
 use Rattle.number_core.specs.declared.scale.Scale.{Scale}
-use Rattle.words_core.specs.Readings.{HasDelimiterFault, missing_text, number_at, is_taken, share_input, shared_text, taken_text, text_in, workers_at, AllowsDisjointIn, AreOptionsIn, ArePathsIn, ForbidsDisjointIn, HasFormatFault, HasJoinFault, HasScaleFault, IsScaleIn}
+use Rattle.words_core.specs.Readings.{NeedsLayouts, missing_text, number_at, is_taken, share_input, shared_text, taken_text, text_in, workers_at, AllowsDisjointIn, AreOptionsIn, ArePathsIn, ForbidsDisjointIn, HasFormatFault, HasJoinFault, HasScaleFault, IsScaleIn}
 use Rattle.words_core.specs.Readings.{IsRangeFault, IsRelationFault, NeedsNoDisjoint, NeedsOptions, NeedsPaths, NeedsRelation, NeedsScale, Says}
 use Rattle.words_core.specs.declared.words.LayerPaths.{LayerPaths}
 use Rattle.words_core.specs.declared.words.WordFault.{WordFault}
@@ -135,11 +135,12 @@ paths_passed rows paths f Then are rest =
     (when_false (is_taken left right e s) _ _
     (subst (λ (x : Option Text). is_taken left right e x ≡ false) (sym are.skip)
     (subst (λ (x : Option Text). is_taken left right x (text_in paths.skip) ≡ false) (sym are.edits)
-    are.free)) (inr ((paths.layout, are.layout), rest)))))
+    are.free)) (inr ((paths.left_layout, are.left_layout), inr ((paths.right_layout, are.right_layout), rest))))))
 
-last_weaker : (Fault Read Then : Type 0) → Fault ⊎ (Read × ⊥) → Fault ⊎ (Read × Then)
-last_weaker Fault Read Then (inl fault) = inl fault
-last_weaker Fault Read Then (inr (read, none)) = absurd none
+last_weaker : (Fault Read RightFault RightRead Then : Type 0) → Fault ⊎ (Read × (RightFault ⊎ (RightRead × ⊥))) → Fault ⊎ (Read × (RightFault ⊎ (RightRead × Then)))
+last_weaker Fault Read RightFault RightRead Then (inl fault) = inl fault
+last_weaker Fault Read RightFault RightRead Then (inr (read, inl fault)) = inr (read, inl fault)
+last_weaker Fault Read RightFault RightRead Then (inr (read, inr (right, none))) = absurd none
 
 both_weaker : (b c : Bool) (P Q A B : Type 0) → (A → B) → MatchBool b P (MatchBool c Q A) → MatchBool b P (MatchBool c Q B)
 both_weaker true c P Q A B weaker h = h
@@ -152,14 +153,14 @@ paths_weaker rows f Then n =
     needs_weaker (codes "LEFT") (first_of (codes "LEFT") rows) f _ _
     (λ left. needs_weaker (codes "RIGHT") (first_of (codes "RIGHT") rows) f _ _
     (λ right. both_weaker (share_input left right (first_of (codes "edits") rows))
-    (is_taken left right (first_of (codes "edits") rows) (first_of (codes "skip") rows)) _ _ _ _ (last_weaker _ _ Then))) n
+    (is_taken left right (first_of (codes "edits") rows) (first_of (codes "skip") rows)) _ _ _ _ (last_weaker _ _ _ _ Then))) n
 
--- the paths are good, and the layout has a fault
+-- the paths are good, and a layout has a fault
 pub paths_misread : (rows : List Row) (left right : Text) (edits skip : Option Text) (f : WordFault)
     → first_of (codes "LEFT") rows ≡ Some left → first_of (codes "RIGHT") rows ≡ Some right
     → first_of (codes "edits") rows ≡ edits → first_of (codes "skip") rows ≡ skip
     → share_input left right edits ≡ false → is_taken left right edits skip ≡ false
-    → HasDelimiterFault rows f → NeedsPaths rows f ⊥
+    → NeedsLayouts rows f ⊥ → NeedsPaths rows f ⊥
 paths_misread rows left right edits skip f is_left is_right are_edits is_skip alone free fault =
     let e = first_of (codes "edits") rows in
     let s = first_of (codes "skip") rows in
@@ -169,7 +170,7 @@ paths_misread rows left right edits skip f is_left is_right are_edits is_skip al
     (subst (λ (x : Option Text). share_input left right x ≡ false) (sym are_edits) alone)
     (when_false (is_taken left right e s) _ _
     (subst (λ (x : Option Text). is_taken left right e x ≡ false) (sym is_skip)
-    (subst (λ (x : Option Text). is_taken left right x skip ≡ false) (sym are_edits) free)) (inl fault))))
+    (subst (λ (x : Option Text). is_taken left right x skip ≡ false) (sym are_edits) free)) fault)))
 
 -- ---- joins
 

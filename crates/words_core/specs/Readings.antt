@@ -5,7 +5,7 @@ use Rattle.std.specs.Prelude.{if◌then◌else◌, find, nat_le, nat_eq, option_
 use Rattle.std.specs.Prelude.{string_bytes}
 use Rattle.std.specs.Bool.{MatchBool}
 use Rattle.std.specs.Borrow.{Bor}
-use Rattle.std.specs.Option.{MatchOption, option_map_or}
+use Rattle.std.specs.Option.{MatchOption, option_map_or, option_or}
 use Rattle.std.specs.Str.{bytes_eq, chars}
 use Rattle.std.specs.Str.Parse.{digits_value, without_leading_plus}
 use Rattle.clap.specs.Words.{Kinds, IsAmong, Row, Text, fault_of, first_of, found_of, one_of}
@@ -165,9 +165,28 @@ NamesColumns None columns.Exact = ⊤
 NamesColumns None (Named id geometry) = ⊥
 NamesColumns (Some word) named = AreColumnNames word named
 
-pub record IsLayoutIn (rows : List Row) (layout : Layout) : Type 0 where
-  pub delimiter : NamesDelimiter (first_of (codes "delimiter") rows) layout.delimiter
-  pub columns : NamesColumns (first_of (codes "columns") rows) layout.columns
+-- the layout that these words of a delimiter and of columns name
+pub record IsLayoutBy (delimiter columns : Option Text) (layout : Layout) : Type 0 where
+  pub separated : NamesDelimiter delimiter layout.delimiter
+  pub named : NamesColumns columns layout.columns
+
+abbrev pub IsLayoutIn : List Row → Layout → Type 0
+IsLayoutIn rows =
+    IsLayoutBy (first_of (codes "delimiter") rows) (first_of (codes "columns") rows)
+
+-- the word of a side's own option, and without one that of the option for both layers
+abbrev pub own_or_common : Text → Text → List Row → Option Text
+own_or_common own common rows = option_or (first_of own rows) (first_of common rows)
+
+abbrev pub IsLeftLayoutIn : List Row → Layout → Type 0
+IsLeftLayoutIn rows =
+    IsLayoutBy (own_or_common (codes "left-delimiter") (codes "delimiter") rows)
+    (own_or_common (codes "left-columns") (codes "columns") rows)
+
+abbrev pub IsRightLayoutIn : List Row → Layout → Type 0
+IsRightLayoutIn rows =
+    IsLayoutBy (own_or_common (codes "right-delimiter") (codes "delimiter") rows)
+    (own_or_common (codes "right-columns") (codes "columns") rows)
 
 pub record IsLayerIn (rows : List Row) (layer : LayerRequest) : Type 0 where
   pub path : first_of (codes "LAYER") rows ≡ Some layer.path.now
@@ -212,7 +231,7 @@ abbrev pub text_in : Option (Bor Text) → Option Text
 text_in = option_map (λ text. text.now)
 
 -- the paths of the files of a join, of which at most one is standard input, and of the list of
--- skipped rows, which is another file, and the layout of the layers' files
+-- skipped rows, which is another file, and the layouts of the layers' files
 pub record ArePathsIn (rows : List Row) (paths : LayerPaths) : Type 0 where
   pub left : first_of (codes "LEFT") rows ≡ Some paths.left.now
   pub right : first_of (codes "RIGHT") rows ≡ Some paths.right.now
@@ -221,7 +240,8 @@ pub record ArePathsIn (rows : List Row) (paths : LayerPaths) : Type 0 where
   pub skip : first_of (codes "skip") rows ≡ text_in paths.skip
   pub free : is_taken paths.left.now paths.right.now (text_in paths.edits) (text_in paths.skip)
       ≡ false
-  pub layout : IsLayoutIn rows paths.layout
+  pub left_layout : IsLeftLayoutIn rows paths.left_layout
+  pub right_layout : IsRightLayoutIn rows paths.right_layout
 
 -- the option without a value is given
 abbrev pub is_flagged : Text → List Row → Bool
@@ -362,10 +382,29 @@ abbrev pub HasDelimiterFault : List Row → WordFault → Type 0
 HasDelimiterFault rows f =
     IsNoDelimiter (first_of (codes "delimiter") rows) × (f ≡ fault.Delimiter)
 
--- a fault of the layout of the layers' files, or the consequence if it has none
+-- the same of a side with an option of its own, whose word is at fault in this way
+abbrev pub HasOwnDelimiterFault : Text → WordFault → List Row → WordFault → Type 0
+HasOwnDelimiterFault own told rows f =
+    MatchOption (first_of own rows) (HasDelimiterFault rows f)
+    (λ word. IsNoDelimiter (Some word) × (f ≡ told))
+
+abbrev pub HasLeftFault : List Row → WordFault → Type 0
+HasLeftFault = HasOwnDelimiterFault (codes "left-delimiter") fault.LeftDelimiter
+
+abbrev pub HasRightFault : List Row → WordFault → Type 0
+HasRightFault = HasOwnDelimiterFault (codes "right-delimiter") fault.RightDelimiter
+
+-- a fault of the layout of a lone layer's file, or the consequence if it has none
 abbrev pub NeedsLayout : List Row → WordFault → Type 0 → Type 0
 NeedsLayout rows f Then =
     HasDelimiterFault rows f ⊎ (((layout : Layout) × IsLayoutIn rows layout) × Then)
+
+-- a fault of the layout of the left layer's file, or else of the right one's, or the consequence if
+-- they have none
+abbrev pub NeedsLayouts : List Row → WordFault → Type 0 → Type 0
+NeedsLayouts rows f Then =
+    HasLeftFault rows f ⊎ (((layout : Layout) × IsLeftLayoutIn rows layout)
+    × (HasRightFault rows f ⊎ (((layout : Layout) × IsRightLayoutIn rows layout) × Then)))
 
 abbrev pub HasLayerFault : List Row → WordFault → Type 0
 HasLayerFault rows f =
@@ -461,13 +500,13 @@ NeedsFree left right edits skip f Then =
     MatchBool (is_taken left right edits skip) (Says taken_text f) Then
 
 -- a fault of the paths of two layers, of their edits and of the list of skipped rows, or of the
--- layout of the layers' files, or the consequence if they have none
+-- layouts of the layers' files, or the consequence if they have none
 abbrev pub NeedsPaths : List Row → WordFault → Type 0 → Type 0
 NeedsPaths rows f Then =
     NeedsText (codes "LEFT") rows f (λ left. NeedsText (codes "RIGHT") rows f (λ right.
     NeedsOneInput left right (first_of (codes "edits") rows) f
     (NeedsFree left right (first_of (codes "edits") rows) (first_of (codes "skip") rows) f
-    (NeedsLayout rows f Then))))
+    (NeedsLayouts rows f Then))))
 
 abbrev pub HasJoinFault : List Row → WordFault → Type 0
 HasJoinFault rows f =

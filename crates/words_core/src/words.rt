@@ -26,8 +26,8 @@ pub struct RelateRequest<'a> {
     pub geometries: Geometries,
 }
 
-/// The paths of the files of two layers, and of their edits, if there are any, and how the layers'
-/// files are laid out.
+/// The paths of the files of two layers, and of their edits, if there are any, and how each layer's
+/// file is laid out.
 #[derive(Clone, Copy, PartialEq, Eq)]
 pub struct LayerPaths<'a> {
     pub left: &'a str,
@@ -36,8 +36,10 @@ pub struct LayerPaths<'a> {
     /// The path at which the rows whose geometry can't be read are listed; without one, such a row
     /// is a fault.
     pub skip: Option<&'a str>,
-    /// The layout of the files of both layers.
-    pub layout: Layout<'a>,
+    /// The layout of the left layer's file.
+    pub left_layout: Layout<'a>,
+    /// The layout of the right layer's file.
+    pub right_layout: Layout<'a>,
 }
 
 /// How the number of workers of the options is meant.
@@ -161,6 +163,12 @@ pub enum WordFault {
     /// The word of `--delimiter` names no character that may lie between fields.
     #[error("--delimiter must be , ; or tab")]
     Delimiter,
+    /// The word of `--left-delimiter` names no character that may lie between fields.
+    #[error("--left-delimiter must be , ; or tab")]
+    LeftDelimiter,
+    /// The word of `--right-delimiter` names no character that may lie between fields.
+    #[error("--right-delimiter must be , ; or tab")]
+    RightDelimiter,
     /// Memory ran out.
     #[error("no memory")]
     Memory,
@@ -207,8 +215,8 @@ pub fn read_words<'a>(alloc: Global, words: &'a [&'a str]) -> Result<Command<'a>
     // number, which `clap` checks; where `clap` refuses the words, a fault of a kind that it may
     // have, which is help exactly where help or the version is asked for; otherwise the first fault
     // in the order options of a join that exclude each other, arguments, two files at `-`, a list
-    // of skipped rows at `-` or at the path of another file of the command, `--delimiter`,
-    // relation, whether it holds for disjoint geometries of the kind that the words name, the three
+    // of skipped rows at `-` or at the path of another file of the command, `--delimiter` or that
+    // of a side, which stands in its place, relation, whether it holds for disjoint geometries of the kind that the words name, the three
     // numbers, scale, `--distance`, `--most`, `--geometry`, `--rings`. The scale has the limits of
     // any geometry where `--geometry any` is given, and else those of boxes. A distance is the
     // value of its whole word by the grammar of numbers at the scale; a word that spells none is a

@@ -3,7 +3,7 @@
 ghost use Rattle.usage_core.specs.Tables.{argument_rule};
 ghost use Rattle.usage_core.specs.Usage.{IsArgument, default_rule, flag_rule, geometry_rule};
 ghost use Rattle.usage_core.specs.Usage.{numeric_rule, optional_rule, positional_rule};
-ghost use Rattle.usage_core.specs.Usage.{required_rule, workers_rule};
+ghost use Rattle.usage_core.specs.Usage.{required_rule, side_rule, workers_rule};
 
 use super::workers::WorkersValue;
 use clap::{Arg, ArgAction, value_parser};
@@ -33,6 +33,12 @@ pub(crate) enum Argument {
         name: &'static str,
         help: &'static str,
     },
+    /// An option of one of two layers with a text as its value, which the help calls `value`.
+    Side {
+        name: &'static str,
+        value: &'static str,
+        help: &'static str,
+    },
     /// An option without a value.
     Flag {
         name: &'static str,
@@ -57,7 +63,7 @@ pub(crate) const RELATE_ARGUMENTS: [Argument; 6] = [
     RINGS,
 ];
 
-pub(crate) const JOIN_ARGUMENTS: [Argument; 18] = [
+pub(crate) const JOIN_ARGUMENTS: [Argument; 22] = [
     LEFT,
     RIGHT,
     RELATION,
@@ -76,9 +82,13 @@ pub(crate) const JOIN_ARGUMENTS: [Argument; 18] = [
     RINGS,
     COLUMNS,
     DELIMITER,
+    LEFT_COLUMNS,
+    RIGHT_COLUMNS,
+    LEFT_DELIMITER,
+    RIGHT_DELIMITER,
 ];
 
-pub(crate) const DRAW_ARGUMENTS: [Argument; 14] = [
+pub(crate) const DRAW_ARGUMENTS: [Argument; 18] = [
     LEFT,
     RIGHT,
     RELATION,
@@ -93,9 +103,13 @@ pub(crate) const DRAW_ARGUMENTS: [Argument; 14] = [
     RINGS,
     COLUMNS,
     DELIMITER,
+    LEFT_COLUMNS,
+    RIGHT_COLUMNS,
+    LEFT_DELIMITER,
+    RIGHT_DELIMITER,
 ];
 
-pub(crate) const NEAR_ARGUMENTS: [Argument; 15] = [
+pub(crate) const NEAR_ARGUMENTS: [Argument; 19] = [
     LEFT,
     RIGHT,
     DISTANCE,
@@ -111,9 +125,13 @@ pub(crate) const NEAR_ARGUMENTS: [Argument; 15] = [
     RINGS,
     COLUMNS,
     DELIMITER,
+    LEFT_COLUMNS,
+    RIGHT_COLUMNS,
+    LEFT_DELIMITER,
+    RIGHT_DELIMITER,
 ];
 
-pub(crate) const NEAREST_ARGUMENTS: [Argument; 15] = [
+pub(crate) const NEAREST_ARGUMENTS: [Argument; 19] = [
     LEFT,
     RIGHT,
     MOST,
@@ -129,6 +147,10 @@ pub(crate) const NEAREST_ARGUMENTS: [Argument; 15] = [
     RINGS,
     COLUMNS,
     DELIMITER,
+    LEFT_COLUMNS,
+    RIGHT_COLUMNS,
+    LEFT_DELIMITER,
+    RIGHT_DELIMITER,
 ];
 
 pub(crate) const WINDOW_ARGUMENTS: [Argument; 8] = [
@@ -266,6 +288,30 @@ const DELIMITER: Argument = Argument::Optional {
     help: "Character between a layer's fields, \",\" (the default), \";\" or tab",
 };
 
+const LEFT_COLUMNS: Argument = Argument::Side {
+    name: "left-columns",
+    value: "names",
+    help: "Names of the left layer's columns, in place of --columns",
+};
+
+const RIGHT_COLUMNS: Argument = Argument::Side {
+    name: "right-columns",
+    value: "names",
+    help: "Names of the right layer's columns, in place of --columns",
+};
+
+const LEFT_DELIMITER: Argument = Argument::Side {
+    name: "left-delimiter",
+    value: "sep",
+    help: "Character between the left layer's fields, in place of --delimiter",
+};
+
+const RIGHT_DELIMITER: Argument = Argument::Side {
+    name: "right-delimiter",
+    value: "sep",
+    help: "Character between the right layer's fields, in place of --delimiter",
+};
+
 /// The `clap` definition of an argument, where `--workers` takes such a value.
 pub(crate) fn declared_argument<'a>(
     alloc: Global,
@@ -283,6 +329,7 @@ pub(crate) fn declared_argument<'a>(
         } => numeric(alloc, name, help, default),
         Argument::Required { name, help } => required(alloc, name, help),
         Argument::Optional { name, help } => optional(alloc, name, help),
+        Argument::Side { name, value, help } => side(alloc, name, value, help),
         Argument::Flag { name, help } => flag(alloc, name, help),
         Argument::Workers => workers(alloc, value),
         Argument::Geometry => geometry(alloc),
@@ -319,6 +366,16 @@ fn optional<'a>(alloc: Global, name: &'a str, help: &'a str) -> Arg<'a>
     ensures { IsArgument (optional_rule name.entry.now) result }
 {
     Arg::new(alloc, name).long(name).help(help)
+}
+
+/// An option of one of two layers with a text as its value, which the help calls `value`.
+fn side<'a>(alloc: Global, name: &'a str, value: &'a str, help: &'a str) -> Arg<'a>
+    ensures { IsArgument (side_rule name.entry.now) result }
+{
+    Arg::new(alloc, name)
+        .long(name)
+        .value_name(value)
+        .help(help)
 }
 
 /// An option without a value.

@@ -1,17 +1,17 @@
-//! Reading the paths of two layers and of their edits, and the layout of the layers' files.
+//! Reading the paths of two layers and of their edits, and the layouts of the layers' files.
 
 ghost use Rattle.std.specs.Prelude.{◌≡◌, ◌≢◌, IfOk, IfErr};
 ghost use Rattle.words_core.specs.Readings.{ArePathsIn, NeedsPaths, found_in, is_taken};
 ghost use Rattle.words_core.specs.Readings.{share_input, text_in};
 
 use super::arguments::{optional, required, usage_fault};
-use super::layout::read_layout;
+use super::layout::{read_left_layout, read_right_layout};
 use crate::standard_input::is_standard_input;
 use crate::words::{LayerPaths, WordFault};
 use clap::ArgMatches;
 use std::alloc::Global;
 
-/// Reads the paths, and how the layers' files are laid out. At most one of the files may be standard
+/// Reads the paths, and how each layer's file is laid out. At most one of the files may be standard
 /// input, and the list of skipped rows has to be another file.
 pub fn read_paths<'a>(alloc: Global, given: &ArgMatches<'a>) -> Result<LayerPaths<'a>, WordFault>
     ensures ok { IfOk result (ArePathsIn (found_in given.now)) }
@@ -30,13 +30,15 @@ pub fn read_paths<'a>(alloc: Global, given: &ArgMatches<'a>) -> Result<LayerPath
     if is_taken(left, right, edits, skip) {
         return Err(usage_fault(alloc, "error: --skip needs a file of its own\n"));
     }
-    let layout = read_layout(given)?;
+    let left_layout = read_left_layout(given)?;
+    let right_layout = read_right_layout(given)?;
     Ok(LayerPaths {
         left,
         right,
         edits,
         skip,
-        layout,
+        left_layout,
+        right_layout,
     })
 }
 

@@ -3,7 +3,7 @@ use Rattle.run_core.specs.Lines.{line_of}
 use Rattle.command_core.specs.WordFaults.{word_fault_line}
 use Rattle.command_core.proofs.WordLemmas.{one_piece, two_pieces, ok_as, err_as}
 use Rattle.command_core.proofs.word_fault.word_line.Goals as goal
-use Rattle.command_core.proofs.word_fault.word_line.Goals.{in-Relation, in-AllowsDisjoint, in-Options, in-Scale, in-ScaleOfAny, in-Delimiter, in-Distance, in-DistanceOfAny, in-Most, in-Geometry, in-RingsOfBoxes, in-Rings, in-Memory}
+use Rattle.command_core.proofs.word_fault.word_line.Goals.{in-Relation, in-AllowsDisjoint, in-Options, in-Scale, in-ScaleOfAny, in-Delimiter, in-LeftDelimiter, in-RightDelimiter, in-Distance, in-DistanceOfAny, in-Most, in-Geometry, in-RingsOfBoxes, in-Rings, in-Memory}
 
 pub returns-clause-ok : goal.returns-clause-ok
 returns-clause-ok g c =
@@ -17,6 +17,8 @@ returns-clause-ok g c =
       | in-Scale w ↦ rw (w.in-Scale.is, w.line-is) (one_piece _ _ _ c.begun-line.ensures.text w.push-in-Scale.ensures.text)
       | in-ScaleOfAny w ↦ rw (w.in-ScaleOfAny.is, w.line-is) (one_piece _ _ _ c.begun-line.ensures.text w.push-in-ScaleOfAny.ensures.text)
       | in-Delimiter w ↦ rw (w.in-Delimiter.is, w.line-is) (one_piece _ _ _ c.begun-line.ensures.text w.push-in-Delimiter.ensures.text)
+      | in-LeftDelimiter w ↦ rw (w.in-LeftDelimiter.is, w.line-is) (one_piece _ _ _ c.begun-line.ensures.text w.push-in-LeftDelimiter.ensures.text)
+      | in-RightDelimiter w ↦ rw (w.in-RightDelimiter.is, w.line-is) (one_piece _ _ _ c.begun-line.ensures.text w.push-in-RightDelimiter.ensures.text)
       | in-Distance w ↦ rw (w.in-Distance.is, w.line-is) (one_piece _ _ _ c.begun-line.ensures.text w.push-in-Distance.ensures.text)
       | in-DistanceOfAny w ↦ rw (w.in-DistanceOfAny.is, w.line-is) (one_piece _ _ _ c.begun-line.ensures.text w.push-in-DistanceOfAny.ensures.text)
       | in-Most w ↦ rw (w.in-Most.is, w.line-is) (one_piece _ _ _ c.begun-line.ensures.text w.push-in-Most.ensures.text)
@@ -39,6 +41,8 @@ returns-clause-err g c =
       | in-Scale w ↦ rw (w.in-Scale.is, w.line-is) (one_piece _ _ _ c.begun-line.ensures.text w.push-in-Scale.ensures.text)
       | in-ScaleOfAny w ↦ rw (w.in-ScaleOfAny.is, w.line-is) (one_piece _ _ _ c.begun-line.ensures.text w.push-in-ScaleOfAny.ensures.text)
       | in-Delimiter w ↦ rw (w.in-Delimiter.is, w.line-is) (one_piece _ _ _ c.begun-line.ensures.text w.push-in-Delimiter.ensures.text)
+      | in-LeftDelimiter w ↦ rw (w.in-LeftDelimiter.is, w.line-is) (one_piece _ _ _ c.begun-line.ensures.text w.push-in-LeftDelimiter.ensures.text)
+      | in-RightDelimiter w ↦ rw (w.in-RightDelimiter.is, w.line-is) (one_piece _ _ _ c.begun-line.ensures.text w.push-in-RightDelimiter.ensures.text)
       | in-Distance w ↦ rw (w.in-Distance.is, w.line-is) (one_piece _ _ _ c.begun-line.ensures.text w.push-in-Distance.ensures.text)
       | in-DistanceOfAny w ↦ rw (w.in-DistanceOfAny.is, w.line-is) (one_piece _ _ _ c.begun-line.ensures.text w.push-in-DistanceOfAny.ensures.text)
       | in-Most w ↦ rw (w.in-Most.is, w.line-is) (one_piece _ _ _ c.begun-line.ensures.text w.push-in-Most.ensures.text)
