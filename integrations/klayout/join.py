@@ -4,7 +4,8 @@
         -rd relation=overlaps -rd output=pairs.lyrdb
 
 `-rd space=0.2`, in micrometres, in place of `-rd relation=..` gives the shapes that share no point
-and are closer than that. The shapes of each layer are merged first; `-rd merged=0` takes them as
+and are closer than that; `-rd enclosing=0.2` gives the left areas with a right shape in them that
+is closer to their outlines. The shapes of each layer are merged first; `-rd merged=0` takes them as
 they are drawn. `-rd mode=cell` joins the shapes of each cell by themselves, in place of all below
 the top cell. `-rd others=envelope` takes the bounding boxes of shapes that rjoin doesn't read,
 `others=skip` lists them in a category of their own; without it the first one ends the run. Texts
@@ -31,8 +32,8 @@ from rjoin_klayout.layers import ENVELOPE, ERROR, FLAT, JoinError, Reading  # no
 from rjoin_klayout.program import ProgramError, staleness  # noqa: E402
 
 SWITCH = {"0": False, "1": True}
-WORDS = ("file", "left", "right", "relation", "space", "output", "merged", "mode", "others", "cell",
-         "matrices", "layer", "layout", "version")
+WORDS = ("file", "left", "right", "relation", "space", "enclosing", "output", "merged", "mode",
+         "others", "cell", "matrices", "layer", "layout", "version")
 
 
 def check_words(arguments: Sequence[str]) -> None:
@@ -111,7 +112,8 @@ def request_of(given: Dict[str, object]) -> Request:
     if bool(layer) != ("layout" in given):
         raise JoinError("layer and layout are given together, or neither")
     return Request(word(given, "left"), word(given, "right"), word(given, "relation", ""),
-                   word(given, "space", ""), reading, switch(given, "matrices"), layer)
+                   word(given, "space", ""), reading, switch(given, "matrices"), layer,
+                   word(given, "enclosing", ""))
 
 
 def join(given: Dict[str, object]) -> None:

@@ -527,7 +527,7 @@ def test_batch_mode_merges_and_tells_bounding_boxes(klayout: Any, town: Path, tm
     wrong = klayout(PACKAGE / "join.py", **{**words, "merged": "yes"})
     assert wrong.returncode == 1 and "merged must be 0 or 1" in wrong.stderr
     both = klayout(PACKAGE / "join.py", space="1", **words)
-    assert both.returncode == 1 and "one of relation and space is needed" in both.stderr
+    assert both.returncode == 1 and "one of relation, space and enclosing is needed" in both.stderr
     unknown = klayout(PACKAGE / "join.py", realtion="within", **words)
     assert unknown.returncode == 1 and "-rd realtion is unknown; there are file, " in unknown.stderr
     for name, text in (("cell", "the layout has no cell NONE"),
@@ -600,6 +600,7 @@ for name in (1, 100):
 """
 FIRST, SECOND = "(0,0;0,100;100,100;100,0)", "(150,20;150,60;200,60;200,20)"
 GAP = "(100,20;100,60;150,60;150,20)"
+ENCLOSED = "(10,0;20,0)/(20,10;10,10)"
 
 
 def written(folder: Path, name: str, text: str) -> Path:
@@ -643,6 +644,7 @@ first, second = (pya.Region(layout.top_cell().begin_shapes_rec(layout.layer(numb
                  for number in (1, 2))
 print(regions.select(first, "contains", second))
 print(regions.space(first, first, 60))
+print(regions.enclosing(first, second, 45))
 try:
     regions.select(first, "contain", second)
 except Exception as fault:
@@ -657,6 +659,7 @@ first, second = [1, 2].collect do |number|
 end
 puts Rjoin.select(first, "contains", second).to_s
 puts Rjoin.space(first, first, 60).to_s
+puts Rjoin.enclosing(first, second, 45).to_s
 begin
   Rjoin.select(first, "contain", second)
 rescue => fault
@@ -669,6 +672,7 @@ source($file)
 first, second = input(1, 0), input(2, 0)
 puts first.rjoin_select("contains", second).data.to_s
 puts first.rjoin_space(0.06).data.to_s
+puts first.rjoin_enclosing(second, 0.045).data.to_s
 begin
   first.rjoin_select("contain", second)
 rescue => fault
@@ -684,9 +688,88 @@ def test_calls_from_scripts(klayout: Any, boxes: Path, tmp_path: Path, name: str
     (tmp_path / "home/salt/rjoin").symlink_to(PACKAGE)
     ended = klayout_run(["-b", "-r", str(written(tmp_path, name, CALLS[name]))],
                         {"file": str(boxes)}, KLAYOUT_HOME=str(tmp_path / "home"))
-    first, space, fault, *_ = ended.stdout.splitlines()
+    first, space, enclosing, fault, *_ = ended.stdout.splitlines()
     assert (first, space) == (FIRST, "(150,20;150,60)/(100,60;100,20)"), ended.stderr
+    assert enclosing == ENCLOSED
     assert "not a name or a mask" in fault
+
+
+ENCLOSURES = """
+import random
+import pya
+from rjoin_klayout import regions
+
+
+def area(text):
+    return pya.Region(pya.Polygon.from_s(text))
+
+
+def native(outer, inner, limit):
+    return outer.enclosing_check(inner, limit, False, pya.Region.Euclidian, None, None, None)
+
+
+def made(source, size, upright):
+    region = pya.Region()
+    for _ in range(3):
+        x, y = source.randrange(120 - size), source.randrange(120 - size)
+        points = [pya.Point(x + source.randrange(size), y + source.randrange(size))
+                  for _ in range(3)]
+        region.insert(pya.Box(x, y, x + source.randint(3, size), y + source.randint(3, size))
+                      if upright else pya.Polygon(points))
+    return region.merged()
+
+
+square = area("(0,0;0,100;100,100;100,0)")
+holed = area("(0,0;0,100;100,100;100,0/40,40;60,40;60,60;40,60)")
+for outer, inner, limit in (
+        (square, "(10,20;10,40;40,40;40,20)", 10), (square, "(10,20;10,40;40,40;40,20)", 11),
+        (square, "(0,20;0,40;40,40;40,20)", 5), (square, "(95,95;95,120;99,120;99,95)", 9),
+        (holed, "(10,30;10,38;90,38;90,30)", 3), (square, "(10,50;50,80;50,20)", 11)):
+    print(regions.enclosing(outer, area(inner), limit))
+source, found = random.Random(5), [[0, 0, 0], [0, 0, 0]]
+for number in range(60):
+    upright = number % 2
+    sizes = (90, 25) if upright else (110, 12)
+    outer, inner = (made(source, size, upright) for size in sizes)
+    for one in outer.each():
+        for other in inner.each():
+            left, right = pya.Region(one), pya.Region(other)
+            if not regions.select(left, "covers", right).is_empty():
+                ours = regions.enclosing(left, right, 6).count()
+                theirs = native(left, right, 6).count() > 0
+                found[upright][0] += ours
+                found[upright][1] += theirs and not ours
+                found[upright][2] += ours and not theirs
+print(found[1][0] > 9, *found[1][1:])
+print(found[0][1])
+"""
+
+
+def test_enclosures(klayout: Any, tmp_path: Path) -> None:
+    """Beside KLayout's enclosing check of each two areas, of which the right one lies in the left
+    one: the same of areas along the axes, and no area of others less. KLayout 0.28 misses acute
+    corners of slanted areas that point at the outline."""
+    (tmp_path / "home/salt").mkdir(parents=True)
+    (tmp_path / "home/salt/rjoin").symlink_to(PACKAGE)
+    script = written(tmp_path, "enclosures.py", ENCLOSURES)
+    ended = klayout_run(["-b", "-r", str(script)], {}, KLAYOUT_HOME=str(tmp_path / "home"))
+    assert ended.stdout.splitlines() == [
+        "", "(0,20;0,40)/(10,40;10,20)", "(0,20;0,40)/(0,40;0,20)", "",
+        "(40,40;60,40)/(60,38;40,38)", "(0,50;0,50)/(10,50;10,50)",
+        "True 0 0", "0"], ended.stderr
+
+
+def test_an_enclosure_is_of_two_layers(klayout: Any, boxes: Path, tmp_path: Path) -> None:
+    """In batch mode, with its item and its shape in a layer; of one layer it says nothing."""
+    words = {"file": str(boxes), "left": "1/0", "output": str(tmp_path / "pairs.lyrdb"),
+             "layer": "100/0", "layout": str(tmp_path / "marked.gds"), "enclosing": "0.045"}
+    ended = klayout(PACKAGE / "join.py", right="2/0", **words)
+    assert ended.stdout == "'1/0 with less than 0.045 um around 2/0, merged': 1\n", ended.stderr
+    text = Path(words["output"]).read_text(encoding="utf-8")
+    assert "edge-pair: (0.01,0;0.02,0)/(0.02,0.01;0.01,0.01)" in text
+    assert "distance: 0.01 um" in text
+    same = klayout(PACKAGE / "join.py", right="1/0", **words)
+    assert same.returncode == 1 and "an enclosure is of two layers" in same.stderr
 
 
 def test_a_failing_program_leaves_nothing(klayout: Any, town: Path, tmp_path: Path) -> None:
@@ -734,6 +817,9 @@ try:
     print(asked.request())
     asked.others.currentIndex = asked.mode.currentIndex = 0
     asked.matrices.checked = True
+    asked.enclosing.text = "0.2"
+    print(asked.request())
+    asked.enclosing.text = ""
     print(dialog.show(view, asked.request()), view.num_rdbs())
     layout = view.active_cellview().layout()
     print(pya.Region(layout.top_cell().begin_shapes_rec(layout.layer(100, 0))).count() > 0)
@@ -757,10 +843,13 @@ def test_package_with_its_dialog(klayout: Any, town: Path, tmp_path: Path) -> No
         "Merge the shapes of each layer first True",
         "Request(left='1/0', right='4/0', relation='', space='0.5', "
         "reading=Reading(others='error', merged=True, mode='flat'), matrices=True, "
-        "layer='')",
+        "layer='', enclosing='')",
         "Request(left='1/0', right='4/0', relation='overlaps', space='', "
         "reading=Reading(others='skip', merged=False, mode='cell'), matrices=False, "
-        "layer='100/0')",
+        "layer='100/0', enclosing='')",
+        "Request(left='1/0', right='4/0', relation='', space='', "
+        "reading=Reading(others='error', merged=False, mode='flat'), matrices=True, "
+        "layer='100/0', enclosing='0.2')",
         "20 1", "True"
     ], ended.stderr
 

@@ -3,11 +3,13 @@
 #     require "rjoin"
 #     Rjoin.select(metal, "contains_properly", vias)   # as Region#covering; relations of rjoin
 #     Rjoin.space(metal, metal, 200)                   # edge pairs, as Region#space_check
+#     Rjoin.enclosing(metal, vias, 100)                # edge pairs, as Region#enclosing_check
 #
 # In a DRC script, layers have the same calls:
 #
 #     input(1, 0).rjoin_select("contains_properly", input(2, 0)).output("metal with a via")
 #     input(1, 0).rjoin_space(0.2).output("closer than 0.2 um")
+#     input(1, 0).rjoin_enclosing(input(2, 0), 0.1).output("less than 0.1 um around a via")
 require "json"
 require "tmpdir"
 
@@ -24,8 +26,18 @@ module Rjoin
   # The narrow places between areas of two regions, or of one with itself, that share no point and
   # are closer than a number of database units.
   def self.space(left, right, limit)
-    pairs = answer(left, right, { "space" => limit.to_s }).collect { |text| RBA::EdgePair.from_s(text) }
-    RBA::EdgePairs.new(pairs)
+    edge_pairs(left, right, { "space" => limit.to_s })
+  end
+
+  # The narrow places between the outlines of areas of a region and areas of another that lie in
+  # these and are closer to the outlines than a number of database units.
+  def self.enclosing(left, right, limit)
+    edge_pairs(left, right, { "enclosing" => limit.to_s })
+  end
+
+  # The lines that the Python package answers, as edge pairs.
+  def self.edge_pairs(left, right, condition)
+    RBA::EdgePairs.new(answer(left, right, condition).collect { |text| RBA::EdgePair.from_s(text) })
   end
 
   # The lines that the Python package answers.
@@ -60,7 +72,7 @@ module Rjoin
     macro.run
   end
 
-  private_class_method :answer, :write_layers, :run
+  private_class_method :edge_pairs, :answer, :write_layers, :run
 end
 
 if defined?(DRC::DRCLayer)
@@ -70,10 +82,19 @@ if defined?(DRC::DRCLayer)
       DRC::DRCLayer.new(@engine, Rjoin.select(data, relation, other.data))
     end
 
-    # The spacing is in micrometres if it is a float, else in database units, as everywhere in DRC.
     def rjoin_space(spacing, other = self)
-      limit = spacing.is_a?(Float) ? (0.5 + spacing / @engine.dbu).floor : spacing
-      DRC::DRCLayer.new(@engine, Rjoin.space(data, other.data, limit))
+      DRC::DRCLayer.new(@engine, Rjoin.space(data, other.data, rjoin_units(spacing)))
+    end
+
+    def rjoin_enclosing(other, distance)
+      DRC::DRCLayer.new(@engine, Rjoin.enclosing(data, other.data, rjoin_units(distance)))
+    end
+
+    private
+
+    # A distance is in micrometres if it is a float, else in database units, as everywhere in DRC.
+    def rjoin_units(distance)
+      distance.is_a?(Float) ? (0.5 + distance / @engine.dbu).floor : distance
     end
   end
 end

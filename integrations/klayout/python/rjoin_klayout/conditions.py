@@ -1,4 +1,5 @@
-"""The conditions by which two layers are joined: a relation, or a spacing that is too small."""
+"""The conditions by which two layers are joined: a relation, or a spacing or an enclosure that is
+too small."""
 from __future__ import annotations
 
 import re
@@ -9,6 +10,7 @@ from typing import Iterator, List, NamedTuple, Optional, Sequence
 from . import program
 from .layers import JoinError, Layer
 from .markers import Side
+from .narrow import Narrow
 from .report import Mark, Place
 
 RELATIONS = ("intersects", "touches", "crosses", "within", "contains", "overlaps", "equals",
@@ -40,6 +42,9 @@ class Condition(ABC):
     """
 
     is_sorted = False
+    # Whether the program is asked about the outlines of the left areas, and only about right shapes
+    # that lie in these.
+    is_of_outlines = False
     title: str
     about: str
     columns: Sequence[str]
@@ -118,26 +123,26 @@ def explained(matrix: str) -> str:
     return "left and right: " + ("; ".join(shared) or "no common point")
 
 
-class Space(Condition):
-    """Pairs that share no point and are closer than a spacing.
+class Distance(Condition):
+    """Pairs that are closer than a distance.
 
-    `limit` is the spacing in database units, rounded to whole ones as KLayout's DRC rounds it.
+    `word` is what a request calls it. `limit` is the distance in database units, rounded to whole
+    ones as KLayout's DRC rounds it.
     """
 
     columns = (*IDS, "distance")
+    word: str
 
     def __init__(self, text: str, dbu: float) -> None:
         if not NUMBER.fullmatch(text) or Decimal(text) == 0:
-            raise JoinError(f"space must be a number of micrometres above 0, not {text!r}")
-        space = Decimal(text)
+            raise JoinError(f"{self.word} must be a number of micrometres above 0, not {text!r}")
         self.unit = _unit(dbu)
-        self.limit = int((space / self.unit).to_integral_value(ROUND_HALF_UP))
+        self.asked = Decimal(text)
+        self.limit = int((self.asked / self.unit).to_integral_value(ROUND_HALF_UP))
         if self.limit == 0:
-            raise JoinError(f"space must be at least half a database unit, which is {self.unit:f} "
-                            f"micrometres, not {text}")
+            raise JoinError(f"{self.word} must be at least half a database unit, which is "
+                            f"{self.unit:f} micrometres, not {text}")
         self.micrometres = float(self.unit)
-        self.title = f"closer than {space:f} um to"
-        self.about = f"shapes that share no point and are closer than {space:f} um"
 
     def check(self) -> None:
         refusal = program.refusal(*self._asked())
@@ -146,6 +151,44 @@ class Space(Condition):
 
     def words(self, layers: Sequence[Layer]) -> List[str]:
         return [*self._asked(), "--scale", str(self._decimals(layers))]
+
+    def values(self, row: Row, left: Side, right: Side) -> str:
+        """The narrow place as an edge pair, as DRC shows it, with its distance."""
+        narrow = self._narrow(row, left, right)
+        distance = Decimal(row.text) * self.unit
+        return (f"<value>edge-pair: {narrow.text(self.micrometres)}</value>"
+                f"{left.origin(row.left)}{right.origin(row.right)}"
+                f"<value>text: 'distance: {distance.normalize():f} um'</value>")
+
+    def marks(self, rows: Sequence[Row], left: Side, right: Side) -> List[Mark]:
+        """The edge pair of each pair."""
+        return [self._narrow(row, left, right).edge_pair() for row in rows]
+
+    @abstractmethod
+    def _narrow(self, row: Row, left: Side, right: Side) -> Narrow:
+        """The narrow place of a pair."""
+
+    def _decimals(self, layers: Sequence[Layer]) -> int:
+        """As many decimals as the program's range allows for the distance and the layers."""
+        reach = max(self.limit, *(layer.reach for layer in layers))
+        is_of_boxes = all(layer.is_of_boxes() for layer in layers) and not self.is_of_outlines
+        limit = BOX_LIMIT if is_of_boxes else LIMIT
+        return max((decimals for decimals in range(MOST_DECIMALS + 1)
+                    if reach * 10**decimals <= limit), default=0)
+
+    def _asked(self) -> List[str]:
+        return ["near", f"--distance={self.limit}"]
+
+
+class Space(Distance):
+    """Pairs that share no point and are closer than a spacing."""
+
+    word = "space"
+
+    def __init__(self, text: str, dbu: float) -> None:
+        super().__init__(text, dbu)
+        self.title = f"closer than {self.asked:f} um to"
+        self.about = f"shapes that share no point and are closer than {self.asked:f} um"
 
     def kept(self, rows: Iterator[Row], layers: Sequence[Layer]) -> Iterator[Row]:
         """Those that are closer: the report has those too that are as far apart as the spacing, and
@@ -159,28 +202,33 @@ class Space(Condition):
                     left.box(row.left), right.box(row.right), Decimal(row.text), self.limit):
                 yield row
 
-    def values(self, row: Row, left: Side, right: Side) -> str:
-        """The narrow place as an edge pair, as DRC shows it, with its distance."""
-        narrow = left.narrow(row.left, right, row.right, float(row.text))
-        distance = Decimal(row.text) * self.unit
-        return (f"<value>edge-pair: {narrow.text(self.micrometres)}</value>"
-                f"{left.origin(row.left)}{right.origin(row.right)}"
-                f"<value>text: 'distance: {distance.normalize():f} um'</value>")
-
-    def marks(self, rows: Sequence[Row], left: Side, right: Side) -> List[Mark]:
-        """The edge pair of each pair."""
-        return [left.narrow(row.left, right, row.right, float(row.text)).edge_pair()
-                for row in rows]
-
-    def _decimals(self, layers: Sequence[Layer]) -> int:
-        """As many decimals as the program's range allows for the spacing and the layers."""
-        reach = max(self.limit, *(layer.reach for layer in layers))
-        limit = BOX_LIMIT if all(layer.is_of_boxes() for layer in layers) else LIMIT
-        return max((decimals for decimals in range(MOST_DECIMALS + 1)
-                    if reach * 10**decimals <= limit), default=0)
+    def _narrow(self, row: Row, left: Side, right: Side) -> Narrow:
+        return left.narrow(row.left, right, row.right, float(row.text))
 
     def _asked(self) -> List[str]:
-        return ["near", f"--distance={self.limit}", "--apart"]
+        return [*super()._asked(), "--apart"]
+
+
+class Enclosure(Distance):
+    """Pairs of a left area and a right shape in it that is closer to the left one's outline than a
+    distance, or touches it."""
+
+    word = "enclosing"
+    is_of_outlines = True
+
+    def __init__(self, text: str, dbu: float) -> None:
+        super().__init__(text, dbu)
+        self.title = f"with less than {self.asked:f} um around"
+        self.about = ("left areas with a right shape in them that is closer to their outlines "
+                      f"than {self.asked:f} um")
+
+    def kept(self, rows: Iterator[Row], layers: Sequence[Layer]) -> Iterator[Row]:
+        """Those that are closer, by the rounded distance, which is exact along an axis."""
+        left, _ = layers
+        return (row for row in rows if Decimal(row.text) < self.limit and left.is_area(row.left))
+
+    def _narrow(self, row: Row, left: Side, right: Side) -> Narrow:
+        return left.narrow_within(row.left, right, row.right, float(row.text))
 
 
 def _unit(dbu: float) -> Decimal:

@@ -25,7 +25,7 @@ MODES = {
 
 
 class JoinDialog(pya.QDialog):
-    """Asks for two layers, a relation or a spacing, and how their shapes are read."""
+    """Asks for two layers, a relation, a spacing or an enclosure, and how their shapes are read."""
 
     def __init__(self, parent: pya.QWidget, layers: Sequence[str]) -> None:
         super().__init__(parent)
@@ -39,6 +39,9 @@ class JoinDialog(pya.QDialog):
         self.space = pya.QLineEdit(self)
         self.space.toolTip = "Shapes that share no point and are closer than that"
         self.form.addRow("Or a spacing in micrometres", self.space)
+        self.enclosing = pya.QLineEdit(self)
+        self.enclosing.toolTip = "Right shapes that lie in a left one, closer to its outline"
+        self.form.addRow("Or an enclosure in micrometres", self.enclosing)
         self.mode = self._choice("Shapes", list(MODES))
         self.others = self._choice("Shapes that rjoin doesn't read", list(CHOICES))
         self.merged = pya.QCheckBox("Merge the shapes of each layer first", self)
@@ -51,7 +54,7 @@ class JoinDialog(pya.QDialog):
         self.matrices.toolTip = "Without it, a join of other shapes than boxes takes less time"
         self.form.addRow(self.matrices)
         self.layer = pya.QLineEdit(self)
-        self.layer.toolTip = "Such as 100/0: the narrow places of a spacing, or the left shapes"
+        self.layer.toolTip = "Such as 100/0: the narrow places of a distance, or the left shapes"
         self.form.addRow("Also as shapes in the layer", self.layer)
         self.buttons = pya.QDialogButtonBox(self)
         self.buttons.standardButtons = pya.QDialogButtonBox.Ok | pya.QDialogButtonBox.Cancel
@@ -60,13 +63,13 @@ class JoinDialog(pya.QDialog):
         self.form.addRow(self.buttons)
 
     def request(self) -> Request:
-        """The request of the user; a spacing goes before the relation."""
-        space = self.space.text.strip()
+        """The request of the user; a spacing or an enclosure goes before the relation."""
+        space, enclosing = self.space.text.strip(), self.enclosing.text.strip()
         return Request(self.left.currentText, self.right.currentText,
-                       "" if space else self.relation.currentText, space,
+                       "" if space or enclosing else self.relation.currentText, space,
                        Reading(CHOICES[self.others.currentText], self.merged.checked,
                                MODES[self.mode.currentText]), self.matrices.checked,
-                       self.layer.text.strip())
+                       self.layer.text.strip(), enclosing)
 
     def _choice(self, label: str, texts: Sequence[str]) -> pya.QComboBox:
         box = pya.QComboBox(self)

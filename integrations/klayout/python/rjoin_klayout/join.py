@@ -8,7 +8,7 @@ from typing import Dict, Iterator, List, NamedTuple, Sequence
 import pya
 
 from . import program
-from .conditions import Condition, Relation, Row, Space
+from .conditions import Condition, Enclosure, Relation, Row, Space
 from .layers import (
     CELL,
     ENVELOPE,
@@ -25,6 +25,8 @@ from .layers import (
 from .markers import Side, marker_of
 from .report import Category, Place, Report, text_value
 
+# Asks for the pairs of which the right shape lies in the left one.
+COVERS = ("join", "--relation=covers", "--pairs")
 EXACT, INEXACT = text_value("exact: true"), text_value("exact: false")
 
 
@@ -32,7 +34,8 @@ class Request(NamedTuple):
     """What is to be joined.
 
     A layer is named as KLayout names it: `1/0`, `METAL`, `METAL (1/0)`. The condition is either a
-    relation, by its name or a mask of nine letters, or a spacing, in micrometres. `matrices` sorts
+    relation, by its name or a mask of nine letters, or a spacing, in micrometres, or an enclosure
+    of the right layer's shapes by the left one's, in micrometres too. `matrices` sorts
     the pairs of a relation by their matrices. `layer` names the layer, by its numbers or a name,
     into which the result is put as shapes, if it is given.
     """
@@ -44,11 +47,14 @@ class Request(NamedTuple):
     reading: Reading = Reading()
     matrices: bool = True
     layer: str = ""
+    enclosing: str = ""
 
     def condition(self, dbu: float) -> Condition:
         """The condition, for a layout with this database unit."""
-        if bool(self.relation) == bool(self.space):
-            raise JoinError("one of relation and space is needed")
+        if sum(map(bool, (self.relation, self.space, self.enclosing))) != 1:
+            raise JoinError("one of relation, space and enclosing is needed")
+        if self.enclosing:
+            return Enclosure(self.enclosing, dbu)
         return Space(self.space, dbu) if self.space else Relation(self.relation, self.matrices)
 
 
@@ -138,6 +144,8 @@ class _Join:
         request = self.request
         left = read_layer(self.layout, cell, request.left, request.reading)
         if layer_index(self.layout, request.left) == layer_index(self.layout, request.right):
+            if self.condition.is_of_outlines:
+                raise JoinError("an enclosure is of two layers")
             return [left, left]
         return [left, read_layer(self.layout, cell, request.right, request.reading)]
 
@@ -150,13 +158,17 @@ class _Join:
             paths = paths[0], paths[0]
         else:
             right.write(paths[1])
-        command, *words = self.condition.words(layers)
-        words += ["--columns", GEOMETRY]
-        if not all(layer.is_of_boxes() for layer in layers):
-            words += ["--geometry", "any", "--rings", "even-odd"]
+        words, columns = self.condition.words(layers), self.condition.columns
         report = folder / "report.csv"
-        program.run([command, *map(str, paths), *words], report)
-        return _rows(report, self.condition.columns)
+        is_of_boxes = all(layer.is_of_boxes() for layer in layers)
+        if not self.condition.is_of_outlines:
+            return _asked(words, paths, is_of_boxes, report, columns)
+        inside = {(row.left, row.right)
+                  for row in _asked(COVERS, paths, is_of_boxes, report, columns[:2])}
+        outlines = folder / "outlines.csv"
+        left.write_outlines(outlines)
+        rows = _asked(words, (outlines, paths[1]), False, report, columns)
+        return (row for row in rows if (row.left, row.right) in inside)
 
     def _add_pairs(self, cell: pya.Cell, layers: Sequence[Layer], rows: Iterator[Row]) -> None:
         left, right = (Side(layer, title, self.layout.dbu)
@@ -201,6 +213,17 @@ class _Join:
             if count:
                 text += f"; layer {name}: {count} shapes left out"
         return text
+
+
+def _asked(words: Sequence[str], paths: Sequence[Path], is_of_boxes: bool, report: Path,
+           columns: Sequence[str]) -> Iterator[Row]:
+    """The rows of the program's report on two files."""
+    command, *options = words
+    options += ["--columns", GEOMETRY]
+    if not is_of_boxes:
+        options += ["--geometry", "any", "--rings", "even-odd"]
+    program.run([command, *map(str, paths), *options], report)
+    return _rows(report, columns)
 
 
 def _rows(report: Path, columns: Sequence[str]) -> Iterator[Row]:

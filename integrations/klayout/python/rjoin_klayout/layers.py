@@ -19,6 +19,7 @@ from .shapes import (
     geometry_of_merged,
     merged_areas,
     merged_wkt,
+    outline_of_text,
     rectangles_of,
     texts_of,
 )
@@ -125,6 +126,9 @@ class Layer:
         """Whether each shape is a box."""
         return not self.areas and all(placed.geometry.is_box() for placed in self.drawn)
 
+    def is_area(self, number: int) -> bool:
+        return number < self.merged_count() or self.placed(number).geometry.is_area()
+
     def write(self, path: Path) -> None:
         """Writes the geometries in database units, one a row; their ids are the rows' numbers."""
         with open(path, "w", encoding="ascii", newline="\n") as file:
@@ -132,6 +136,14 @@ class Layer:
             file.writelines(self.rectangles.lines())
             file.writelines(f'"{merged_wkt(text)}"\n' for text in self.areas)
             file.writelines(f'"{placed.geometry.wkt()}"\n' for placed in self.drawn)
+
+    def write_outlines(self, path: Path) -> None:
+        """The same with the outlines of areas, as lines."""
+        with open(path, "w", encoding="ascii", newline="\n") as file:
+            file.write(f"{GEOMETRY}\n")
+            file.writelines(map(outline_of_text, self.rectangles.lines()))
+            file.writelines(f'"{outline_of_text(merged_wkt(text))}"\n' for text in self.areas)
+            file.writelines(f'"{placed.geometry.outline_wkt()}"\n' for placed in self.drawn)
 
 
 def read_layer(layout: pya.Layout, cell: pya.Cell, name: str, reading: Reading) -> Layer:

@@ -13,6 +13,7 @@ from .narrow import (
     Outline,
     between,
     between_boxes,
+    edges_of,
     outline_of,
     outline_of_box,
     outline_of_merged,
@@ -80,6 +81,11 @@ class Side:
             return between_boxes(self.layer.rectangles[number],
                                  other.layer.rectangles[number_there])
         return between(self.outline(number), other.outline(number_there), distance + 1)
+
+    def narrow_within(self, number: int, other: "Side", number_there: int, distance: float
+                      ) -> Narrow:
+        """The narrow place between the outline of a shape and one of another side in it."""
+        return between(edges_of(self.outline(number)), other.outline(number_there), distance + 1)
 
     def outline(self, number: int) -> Outline:
         """The outline of a shape, which is found once."""

@@ -1,4 +1,5 @@
-"""The narrow place between two shapes that share no point: an edge pair at their least distance."""
+"""The narrow place between two shapes that share no point, or between a shape and the outline of
+one around it: an edge pair at their least distance."""
 from __future__ import annotations
 
 from itertools import product
@@ -12,8 +13,9 @@ from .shapes import Geometry
 # The ends of an edge, x and y of each, or the least and the greatest coordinates of a box.
 Edge = Tuple[float, float, float, float]
 Point = Tuple[float, float]
-# Distances that differ by less than this share of them are the same, since they are floats.
-SHARE = 1e-9
+# Squared distances that differ by less than this share of them, or than this, are the same, since
+# they are floats.
+SHARE, SLACK = 1e-9, 1e-12
 
 
 class Narrow(NamedTuple):
@@ -112,26 +114,26 @@ def _bounds(edges: List[Edge]) -> Edge:
     return (min(*west, *east), min(*south, *north), max(*west, *east), max(*south, *north))
 
 
-def _slanted(outline: Outline) -> Outline:
+def edges_of(outline: Outline) -> Outline:
     """The outline by edges also where it is a rectangle, which counts as a box else."""
     if outline.edges != [outline.bounds]:
         return outline
-    x1, y1, x2, y2 = outline.bounds
-    return outline._replace(edges=[(x1, y1, x2, y1), (x2, y1, x2, y2), (x2, y2, x1, y2),
-                                   (x1, y2, x1, y1)])
+    west, south, east, north = outline.bounds
+    return outline._replace(edges=[(west, south, east, south), (east, south, east, north),
+                                   (west, north, east, north), (west, south, west, north)])
 
 
 def between(one: Outline, other: Outline, reach: float) -> Narrow:
-    """The narrow place between two shapes, which are at most `reach` apart; of several, one at
-    which edges face each other along most of their length."""
+    """The narrow place between two shapes or outlines, which are at most `reach` apart; of several,
+    one at which edges face each other along most of their length."""
     measure = _between_boxes
     if not (one.is_upright and other.is_upright):
-        one, other, measure = _slanted(one), _slanted(other), _between_edges
+        one, other, measure = edges_of(one), edges_of(other), _between_edges
     least, found = inf, Narrow(one.edges[0], other.edges[0])
     for edge, there in product(one.near(other.bounds, reach), other.near(one.bounds, reach)):
         squared, narrow = measure(edge, there)
-        if squared < least * (1 - SHARE) or (
-                squared <= least * (1 + SHARE) and _length(narrow) > _length(found)):
+        if squared < least * (1 - SHARE) - SLACK or (
+                squared <= least * (1 + SHARE) + SLACK and _length(narrow) > _length(found)):
             least, found = squared, narrow
     return found
 
@@ -144,13 +146,14 @@ def _between_boxes(one: Edge, other: Edge) -> Tuple[float, Narrow]:
 
 
 def _between_edges(one: Edge, other: Edge) -> Tuple[float, Narrow]:
-    """The squared distance of two edges that share no point and their narrow place; parallel ones
-    face each other along a part of them."""
+    """The squared distance of two edges that don't cross and their narrow place; parallel ones face
+    each other along a part of them."""
     ends = [(one[:2], _foot(one[:2], other)), (one[2:], _foot(one[2:], other)),
             (_foot(other[:2], one), other[:2]), (_foot(other[2:], one), other[2:])]
     apart = [(x1 - x2) ** 2 + (y1 - y2) ** 2 for (x1, y1), (x2, y2) in ends]
     least = min(apart)
-    nearest = sorted(pair for pair, squared in zip(ends, apart) if squared <= least * (1 + SHARE))
+    nearest = sorted(pair for pair, squared in zip(ends, apart)
+                     if squared <= least * (1 + SHARE) + SLACK)
     first, last = nearest[0], nearest[-1]
     return least, Narrow((*first[0], *last[0]), (*last[1], *first[1]))
 

@@ -30,6 +30,12 @@ def space(left: pya.Region, right: pya.Region, limit: int) -> pya.EdgePairs:
     return pya.EdgePairs(_marks(left, right, space=str(limit)))
 
 
+def enclosing(left: pya.Region, right: pya.Region, limit: int) -> pya.EdgePairs:
+    """The narrow places between the outlines of areas of a region and areas of another that lie in
+    these and are closer to the outlines than a number of database units."""
+    return pya.EdgePairs(_marks(left, right, enclosing=str(limit)))
+
+
 def _marks(left: pya.Region, right: pya.Region, **condition: str) -> List[Mark]:
     layout = pya.Layout()
     layout.dbu = 1.0

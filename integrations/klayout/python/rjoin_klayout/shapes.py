@@ -67,6 +67,10 @@ class Geometry(NamedTuple):
     def bbox(self) -> pya.Box:
         return self.figure if self.is_box() else self.figure.bbox()
 
+    def is_area(self) -> bool:
+        return bool(self.areas) or self.is_box() and 0 not in (self.figure.width(),
+                                                               self.figure.height())
+
     def wkt(self) -> str:
         """The well-known text, in database units."""
         if self.is_box():
@@ -74,6 +78,12 @@ class Geometry(NamedTuple):
         if isinstance(self.figure, pya.Path):
             return f"LINESTRING{_list(self.figure.each_point())}"
         return f"MULTIPOLYGON({','.join(map(_area_text, self.areas))})"
+
+    def outline_wkt(self) -> str:
+        """The well-known text of the outline of one that is an area, and of any other itself."""
+        if not self.areas:
+            return outline_of_text(self.wkt())
+        return f"MULTILINESTRING({','.join(_area_text(area)[1:-1] for area in self.areas)})"
 
 
 def geometry_of(shape: pya.Shape, trans: pya.ICplxTrans) -> Geometry:
@@ -139,6 +149,11 @@ def merged_wkt(text: str) -> str:
     """The well-known text of a merged area."""
     rings = text[1:-1].replace(",", " ").replace(";", ",").split("/")
     return f"POLYGON({','.join(map(_closed, rings))})"
+
+
+def outline_of_text(text: str) -> str:
+    """The rings of a polygon as lines, by its well-known text."""
+    return text.replace("POLYGON", "MULTILINESTRING")
 
 
 def _closed(points: str) -> str:
