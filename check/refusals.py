@@ -388,6 +388,9 @@ def file_cases() -> list[Case]:
         words = ["rjoin", "join", "parcels.csv", "roads.csv", "--edits", "edits.csv", "--relation", "touches"]
         words[[2, 3, 5][at]] = "."
         cases.append(Case(f"a folder as {side.decode()}", words, b"rjoin: " + side + b": read failed\n"))
+    words = ["rjoin", "stats", "too-long.csv", "--geometry", "any"]
+    line = rb"rjoin: layer: wrong header\nthe first line begins with '\?{64}'\n"
+    cases.append(Case("a file of any geometry, too long for boxes", words, line))
     drawn = ["rjoin", "draw", "half.csv", "few.csv", "--relation", "equals"]
     cases.append(Case("too many to draw", drawn, b"rjoin: more than 100000 features to draw\n"))
     few = under("ulimit -n 4;", "rjoin", "join", "parcels.csv", "roads.csv", "--relation", "touches")

@@ -15,6 +15,7 @@ use Rattle.row_core.specs.LayerRows.{RowContent, RowForm, RowSays, Says, content
 use Rattle.format_core.specs.declared.text_fault.TextFault.{TextFault}
 use Rattle.file_core.specs.SkippedRows.{Loaded, LoadsFile, LoadsRow, begun, loaded_with, rows_in}
 use Rattle.file_core.specs.declared.skipped.Unreadable.{Unreadable}
+use Rattle.number_core.specs.declared.limits.Limits.{Limits}
 use Rattle.format_core.specs.declared.layout.Layout.{Layout}
 use Rattle.format_core.specs.Layouts.{Reading}
 use Rattle.row_core.specs.declared.header.Places.{Places}
@@ -248,11 +249,14 @@ module _ {G : Type 0} (form : RowForm G) where
               subst (Gives old loaded) (sym is) (batch-fails next fault batch (λ e. known (is ∙ ap Err e)) w)
 
 -- the rows of a file, all of which are added to none
-pub file_read : {G : Type 0} (reads : Reading G) (unreadable : Unreadable) (bytes : List ℕ) (layout : Layout) (unread : Unread) (places : Places)
-    (loaded : Loaded G) (answer : Result (Loaded G) ReadFault) → layout ≡ reads.layout → IsUnreadFile layout bytes unread places
-    → loaded ≡ begun unreadable → UnreadGive (form_at reads places) unread loaded answer → LoadsFile reads unreadable bytes answer
-file_read {G} reads unreadable bytes layout unread places loaded answer same opened begins gives =
+pub file_read : {G : Type 0} (reads : Reading G) (unreadable : Unreadable) (bytes : List ℕ) (limits : Limits) (layout : Layout) (unread : Unread) (places : Places)
+    (loaded : Loaded G) (answer : Result (Loaded G) ReadFault) → limits ≡ reads.limits → layout ≡ reads.layout
+    → IsUnreadFile limits layout bytes unread places → loaded ≡ begun unreadable → UnreadGive (form_at reads places) unread loaded answer → LoadsFile reads unreadable bytes answer
+file_read {G} reads unreadable bytes limits layout unread places loaded answer bounded same opened begins gives =
     let rows = records_unread unread in
     let P : Loaded G → Type 0 = λ l. RowsGive (LoadsRow (form_at reads places)) (count_unread unread + 1) l rows answer in
-    let Q : Layout → Type 0 = λ l. IsTable l bytes (Ok (record { places = places; rows = rows })) in
-    (Ok (record { places = places; rows = rows }), subst Q same opened.table, rw opened.none_read at (subst P begins gives))
+    let Q : Limits → Layout → Type 0 = λ b l. IsTable b l bytes (Ok (record { places = places; rows = rows })) in (
+      Ok (record { places = places; rows = rows }),
+      subst (λ b. Q b reads.layout) bounded (subst (Q limits) same opened.table),
+      rw opened.none_read at (subst P begins gives),
+    )

@@ -59,7 +59,7 @@ EditsRowGives {G} reads n edits row answer =
 abbrev pub IsEditFile : {G : Type 0} → Reading G → List ℕ
     → Result (List (EditContent G)) ReadFault → Type 0
 IsEditFile reads bytes answer =
-    FileGives edit_columns (EditsRowGives reads.text) [] bytes answer
+    FileGives reads.limits edit_columns (EditsRowGives reads.text) [] bytes answer
 
 -- the contents of a list of edits, or the fault
 abbrev pub edit_contents : {G : Type 0} → Result (Vec (Edit G) Global) ReadFault

@@ -41,10 +41,10 @@ LayerRowGives {G} form n layer row answer =
     (content : Result (RowContent G) ReadFault) × RowSays form n row content
     × (answer ≡ with_row n layer content)
 
--- the layer of a file, read by its layout, or its first fault
+-- the layer of a file, read by its layout and with its limits, or its first fault
 abbrev pub IsLayerFile : {G : Type 0} → Reading G → List ℕ → Result (Contents G) ReadFault → Type 0
-IsLayerFile reads bytes answer =
-    TableGives reads.layout (λ places. LayerRowGives (form_at reads places)) empty bytes answer
+IsLayerFile reads bytes answer = TableGives reads.limits reads.layout
+    (λ places. LayerRowGives (form_at reads places)) empty bytes answer
 
 -- the list of a layer that was read, or the fault
 abbrev pub list_read : {G : Type 0} → Result (LayerState G) ReadFault

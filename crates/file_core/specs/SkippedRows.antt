@@ -68,7 +68,7 @@ LoadsRow {G} form n loaded row answer =
 
 abbrev pub LoadsFile : {G : Type 0} → Reading G → Unreadable → List ℕ
     → Result (Loaded G) ReadFault → Type 0
-LoadsFile reads unreadable bytes answer = TableGives reads.layout
+LoadsFile reads unreadable bytes answer = TableGives reads.limits reads.layout
     (λ places. LoadsRow (form_at reads places)) (begun unreadable) bytes answer
 
 -- the layer of a file that is read in this way, or its fault

@@ -5,8 +5,8 @@ ghost use Rattle.std.specs.Prelude.{IfOk, IfErr, IfSome};
 ghost use Rattle.csv.specs.Records.{fields_of};
 ghost use Rattle.layer_core.specs.Edits.{content_of};
 ghost use Rattle.file_core.specs.EditFiles.{edit_contents, DeletionGives, EditRowGives};
-ghost use Rattle.file_core.specs.EditFiles.{InsertionGives, IsEditFile};
-ghost use Rattle.row_core.specs.Limits.{most_file_bytes};
+ghost use Rattle.file_core.specs.EditFiles.{InsertionGives, IsEditFile, edit_columns};
+ghost use Rattle.row_core.specs.Rows.{AreRows, IsOpened, most_rows};
 
 use csv::ByteRecord;
 use format_core::Format;
@@ -37,12 +37,12 @@ pub fn edits_of_bytes<F: Format>(
     // the same of edits
     ensures file { result ≢ Err ReadFault.Memory
         → IsEditFile (F.reads format) bytes.now (edit_contents result) }
-    // no more edits than a file has bytes
-    ensures few { IfOk result (λ edits. length edits.items ≤ most_file_bytes) }
+    // no more edits than rows have numbers
+    ensures few { IfOk result (λ edits. length edits.items ≤ most_rows) }
     // never `Io`
     ensures no_io { result ≢ Err ReadFault.Io }
 {
-    let mut rows = Rows::open(alloc, bytes, &COLUMNS)?;
+    let mut rows = edit_rows(alloc, format, bytes)?;
     let mut edits = Vec::new(alloc);
     let reader = RowReader { alloc, format };
     while let Some(number) = rows.next()? {
@@ -69,10 +69,20 @@ pub fn read_edits<S: Source, F: Format>(
     ensures file { result ≢ Err ReadFault.Io → result ≢ Err ReadFault.Memory
         → IfSome (S.remaining source.old)
         (λ bytes. IsEditFile (F.reads format) bytes (edit_contents result)) }
-    ensures few { IfOk result (λ edits. length edits.items ≤ most_file_bytes) }
+    ensures few { IfOk result (λ edits. length edits.items ≤ most_rows) }
 {
-    let bytes = read_all(alloc, source)?;
+    let bytes = read_all(alloc, format.limits(), source)?;
     edits_of_bytes(alloc, bytes.as_slice(), format)
+}
+
+/// The rows of a file of edits.
+fn edit_rows<F: Format>(alloc: Global, format: F, bytes: &[u8]) -> Result<Rows<'_>, ReadFault>
+    ensures ok { IfOk result (IsOpened (F.reads format).limits edit_columns bytes.now) }
+    ensures err { IfErr result (λ fault. fault ≢ ReadFault.Memory
+        → AreRows (F.reads format).limits edit_columns bytes.now (Err fault)) }
+    ensures no_io { result ≢ Err ReadFault.Io }
+{
+    Rows::open(alloc, format.limits(), bytes, &COLUMNS)
 }
 
 /// The edit of the row with this number.

@@ -110,7 +110,7 @@ impl<F: Format, R: Threads + Sync> LayerReader<'_, F, R> {
             → IfSome (S.remaining source.old)
             (λ bytes. IsLayerFile (F.reads self.now.format) bytes (list_read result)) }
     {
-        let bytes = read_all(self.alloc, source)?;
+        let bytes = read_all(self.alloc, self.format.limits(), source)?;
         self.layer_of_bytes(state, bytes)
     }
 
@@ -218,7 +218,7 @@ fn load<F: Format, R: Threads + Sync>(
         → LoadsFile (F.reads format) unreadable bytes.now (loaded_or result) }
     ensures no_io { result ≢ Err ReadFault.Io }
 {
-    let (unread, places) = Unread::open(alloc, bytes, format.layout())?;
+    let (unread, places) = Unread::open(alloc, format.limits(), bytes, format.layout())?;
     let loading = begin(alloc, state, unreadable, likely_rows(bytes))?;
     let reader = LayerRowReader {
         alloc,

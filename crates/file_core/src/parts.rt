@@ -7,7 +7,7 @@ ghost use Rattle.file_core.specs.Parts.{IsBoth, IsOnePart, IsParts};
 use crate::batch::fill;
 use crate::cuts::{cut, line_feeds};
 use format_core::Format;
-use row_core::{LayerRowReader, MAX_FILE_BYTES, ReadRow, Rows, ends_with_feed, is_plain};
+use row_core::{LayerRowReader, ReadRow, Rows, ends_with_feed, is_plain};
 use std::alloc::Global;
 use std::thread;
 use std::thread::Threads;
@@ -80,7 +80,8 @@ pub(crate) fn read_four<F: Format, R: Threads + Sync>(
 fn read_whole<F: Format>(reader: LayerRowReader<F>, text: &[u8]) -> Option<Parts<F::Geometry>>
     ensures { IfSome result (IsParts (form_of F.reads reader) text.now) }
 {
-    if text.len() > MAX_FILE_BYTES || !is_plain(text) || !ends_with_feed(text) {
+    // More rows than a u32 numbers are in no text that is shorter.
+    if text.len() >= u32::MAX as usize || !is_plain(text) || !ends_with_feed(text) {
         return None;
     }
     let Ok(mut rows) = Rows::behind(reader.alloc, text, 0) else {

@@ -8,6 +8,7 @@ use Rattle.plane_core.specs.declared.rings.Rings.TheVariants.{Proper}
 use Rattle.plane_core.specs.Vertices.{vertices_of, HoldsVertex}
 use Rattle.any_geometry_core.specs.declared.geometry.AnyGeometry.{AnyGeometry}
 use Rattle.any_geometry_core.specs.AnyGeometries.{figure_of, rings_of, box_of}
+use Rattle.number_core.specs.declared.limits.Limits.TheVariants.{Any, Boxes}
 use Rattle.number_core.specs.declared.scale.Scale.{Scale}
 use Rattle.wkt_core.specs.Readings.{Reads}
 use Rattle.wkt_any_core.specs.declared.fault.GeometryFault.{GeometryFault}
@@ -27,9 +28,9 @@ BoxText scale wkt (Err (text.Wkt fault spells)) =
     Reads scale wkt (Err fault) × SpellsAny scale wkt spells
 BoxText scale wkt (Err (text.Geometry fault)) = ⊥
 
--- boxes in files with the columns `id` and `wkt`
+-- boxes in files with the columns `id` and `wkt`, and the limits of boxes
 abbrev pub ReadsBox : Scale → Reading Shape
-ReadsBox scale = plain (BoxText scale)
+ReadsBox scale = plain Boxes (BoxText scale)
 
 -- the text spells the figure of this geometry, which has this rule of rings and the least box that
 -- holds its vertices
@@ -44,6 +45,6 @@ AnyText scale rings wkt (Ok g) = IsSpelled scale rings wkt g
 AnyText scale rings wkt (Err (text.Wkt fault spells)) = ⊥
 AnyText scale rings wkt (Err (text.Geometry fault)) = any.Reads scale rings wkt (Err fault)
 
--- such geometries in files with the columns `id` and `wkt`
+-- such geometries in files with the columns `id` and `wkt`, and the limits of any geometry
 abbrev pub ReadsAny : Scale → Rings → Reading AnyGeometry
-ReadsAny scale rings = plain (AnyText scale rings)
+ReadsAny scale rings = plain Any (AnyText scale rings)

@@ -4,6 +4,7 @@ use crate::format::Format;
 use crate::layout::Layout;
 use crate::text_fault::TextFault;
 use any_geometry_core::AnyGeometry;
+use number_core::Limits;
 use plane_core::Rings;
 use std::alloc::{AllocError, Global};
 use wkt_core::Scale;
@@ -25,6 +26,10 @@ impl Format for AnyFormat {
 
     fn layout(&self) -> Layout<'_> {
         Layout::plain()
+    }
+
+    fn limits(&self) -> Limits {
+        Limits::Any
     }
 
     fn read(

@@ -6,6 +6,7 @@ ghost use Rattle.format_core.specs.Formats.{SpellsAny};
 use crate::layout::Layout;
 use crate::text_fault::TextFault;
 use geom_core::Shape;
+use number_core::Limits;
 use plane_core::Rings;
 use std::alloc::{AllocError, Global};
 use wkt_core::Scale;
@@ -18,12 +19,17 @@ pub trait Format: Copy + Send + Sync {
     /// A geometry that a text spells.
     type Geometry: layer_core::Geometry + Send;
 
-    /// The layout of the files, and the geometry that a text spells, or the text's fault.
+    /// The layout and the limits of the files, and the geometry that a text spells, or the text's
+    /// fault.
     ghost reads: { Self → Reading Self.Geometry };
 
     /// The layout of the files.
     fn layout(&self) -> Layout<'_>
         ensures { result ≡ (reads self.now).layout };
+
+    /// Those of the files and their layers.
+    fn limits(&self) -> Limits
+        ensures { result ≡ (reads self.now).limits };
 
     /// Reads a text. The outer error means that memory ran out.
     fn read(
@@ -45,6 +51,10 @@ impl Format for Scale {
 
     fn layout(&self) -> Layout<'_> {
         Layout::plain()
+    }
+
+    fn limits(&self) -> Limits {
+        Limits::Boxes
     }
 
     #[inline(always)]

@@ -3,6 +3,7 @@
 use crate::format::Format;
 use crate::layout::Layout;
 use crate::text_fault::TextFault;
+use number_core::Limits;
 use std::alloc::{AllocError, Global};
 
 /// The geometries of a format, in files with this layout.
@@ -21,6 +22,10 @@ impl<F: Format> Format for LaidOut<'_, F> {
 
     fn layout(&self) -> Layout<'_> {
         self.layout
+    }
+
+    fn limits(&self) -> Limits {
+        self.format.limits()
     }
 
     #[inline(always)]

@@ -12,4 +12,5 @@ pub use any_format::AnyFormat;
 pub use format::Format;
 pub use laid_out::LaidOut;
 pub use layout::{Columns, Delimiter, Layout};
+pub use number_core::Limits;
 pub use text_fault::TextFault;

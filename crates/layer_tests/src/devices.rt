@@ -3,6 +3,7 @@
 use crate::layers::{has_features, point, seen, state};
 use crate::read_layers::{reader, whole};
 use file_core::read_edits;
+use format_core::Limits;
 use layer_core::Layer;
 use row_core::{FromRead, ReadFault, Source, read_all};
 use std::alloc::AllocGlobal;
@@ -66,6 +67,23 @@ impl Read for Endless {
     }
 }
 
+/// A reader that gives so many spaces.
+#[derive(Drop)]
+struct Spaces {
+    left: usize,
+}
+
+impl Read for Spaces {
+    fn read(&mut self, buf: &mut [u8]) -> IoResult<usize> {
+        let count = self.left.min(buf.len());
+        for byte in buf[..count].iter_mut() {
+            *byte = b' ';
+        }
+        self.left -= count;
+        Ok(count)
+    }
+}
+
 const ONE_EDIT: &[u8] = b"op,layer,id,wkt\ninsert,left,a,POINT (0 0)\n";
 
 const ONE_POINT: &[u8] = b"id,wkt\na,POINT (1 2)\n";
@@ -93,7 +111,7 @@ fn interrupted_reads_are_tried_again(rt: HostRuntime) -> Result<(), Fail> {
 #[test]
 fn one_byte_at_a_time(rt: HostRuntime) -> Result<(), Fail> {
     let mut source = FromRead::new(Device::new(ONE_POINT, 1, 1_000));
-    let bytes = read_all(rt.alloc(), &mut source)?;
+    let bytes = read_all(rt.alloc(), Limits::Boxes, &mut source)?;
     assert!(rt; bytes.as_slice() == ONE_POINT);
     assert!(rt; !source.failed());
     Ok(())
@@ -104,9 +122,21 @@ fn lengths_that_are_wrong(rt: HostRuntime) -> Result<(), Fail> {
     for likely_len in [0, 1, ONE_POINT.len() - 1, ONE_POINT.len(), 1_000] {
         let device = Device::new(ONE_POINT, 4, 1_000);
         let mut source = FromRead::with_likely_len(device, likely_len);
-        let bytes = read_all(rt.alloc(), &mut source)?;
+        let bytes = read_all(rt.alloc(), Limits::Boxes, &mut source)?;
         assert!(rt; bytes.as_slice() == ONE_POINT);
     }
+    Ok(())
+}
+
+/// As many bytes as a file of boxes has, and one more.
+#[test]
+fn more_than_a_file_of_boxes(rt: HostRuntime) -> Result<(), Fail> {
+    let mut boxes = FromRead::new(Spaces { left: 134_217_729 });
+    let answer = read_all(rt.alloc(), Limits::Boxes, &mut boxes);
+    assert!(rt; answer.err() == Some(ReadFault::TooLong));
+    let mut any = FromRead::new(Spaces { left: 134_217_729 });
+    let bytes = read_all(rt.alloc(), Limits::Any, &mut any)?;
+    assert_eq!(rt; bytes.len(), 134_217_729);
     Ok(())
 }
 

@@ -12,4 +12,4 @@ GrownText reads distance text (Err fault) = reads text (Err fault)
 -- the same files, whose geometries all have this distance
 abbrev pub ReadsGrown : {G : Type 0} → Reading G → Distance → Reading (Grown G)
 ReadsGrown reads distance =
-    record { layout = reads.layout; text = GrownText reads.text distance }
+    record { layout = reads.layout; limits = reads.limits; text = GrownText reads.text distance }

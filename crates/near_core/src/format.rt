@@ -2,7 +2,7 @@
 
 use crate::grown::Grown;
 use distance_core::Distance;
-use format_core::{Format, Layout, TextFault};
+use format_core::{Format, Layout, Limits, TextFault};
 use std::alloc::{AllocError, Global};
 
 /// Geometries, as a format reads them, all with one distance.
@@ -21,6 +21,10 @@ impl<F: Format> Format for GrownFormat<F> {
 
     fn layout(&self) -> Layout<'_> {
         self.format.layout()
+    }
+
+    fn limits(&self) -> Limits {
+        self.format.limits()
     }
 
     #[inline(always)]

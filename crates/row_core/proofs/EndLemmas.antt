@@ -7,6 +7,8 @@ use Rattle.csv.specs.Records.{field_at}
 use Rattle.csv.specs.declared.parser.State.{State}
 use Rattle.csv.specs.declared.parser.State.TheVariants as st
 use Rattle.row_core.specs.declared.rows.Rows.{Rows as RowsOf}
+use Rattle.number_core.specs.declared.limits.Limits.{Limits}
+use Rattle.number_core.specs.declared.limits.Limits.TheVariants.{Any}
 use Rattle.format_core.specs.declared.layout.Delimiter.TheVariants.{Comma}
 use Rattle.format_core.specs.declared.layout.Layout.{Layout}
 use Rattle.row_core.specs.declared.header.Places.{Places}
@@ -17,7 +19,7 @@ use Rattle.row_core.specs.Rows.{has_unended, last_row, rows_left}
 use Rattle.row_core.specs.Tables.{IsOpenedTable}
 use Rattle.row_core.specs.Unread.{IsHeaded, IsHeaderLine, IsUnreadFile}
 use Rattle.row_core.proofs.CutLemmas.{closed-between, state-append, step-after_cr, text-cut}
-use Rattle.row_core.proofs.FileLemmas.{table-opened, table-placed}
+use Rattle.row_core.proofs.FileLemmas.{file_fits, table-opened, table-placed}
 use Rattle.row_core.proofs.RecordLemmas.{length_records_from}
 
 -- ---- ends and beginnings
@@ -107,7 +109,7 @@ ends-append a b first second = rw (state-append st.StartRecord a b) (ends-from (
 -- ---- a header
 
 pub header_line : (layout : Layout) (line : List ℕ) (rows : RowsOf) (places : Places) → layout.delimiter ≡ Comma → 3 < length line → EndsWithFeed line
-    → IsOpenedTable layout line rows places → has_unended rows ≡ false → rows_left rows ≡ [] → IsHeaderLine layout.columns line places
+    → IsOpenedTable Any layout line rows places → has_unended rows ≡ false → rows_left rows ≡ [] → IsHeaderLine layout.columns line places
 header_line layout line rows places commas long ends opened ended none =
     let records = rw commas at opened.behind.records in
     let alone : records_of Comma line ≡ last_row rows ∷ [] = records ∙ ap (λ others. last_row rows ∷ others) none in
@@ -120,33 +122,33 @@ header_line layout line rows places commas long ends opened ended none =
       long = omega arith;
     }
 
-header-unread : (layout : Layout) (bytes : List ℕ) (rest : Bor (List ℕ)) (places : Places) → IsHeaded layout bytes rest.now places
-    → IsUnreadFile layout bytes (Text rest 0) places
-header-unread layout bytes rest places h =
+header-unread : (limits : Limits) (layout : Layout) (bytes : List ℕ) (rest : Bor (List ℕ)) (places : Places) → IsHeaded limits layout bytes rest.now places
+    → IsUnreadFile limits layout bytes (Text rest 0) places
+header-unread limits layout bytes rest places h =
     let text : strip_bom bytes ≡ strip_bom h.line ++ rest.now = ap strip_bom (sym h.whole) ∙ strip-append h.line rest.now h.headed.long in
     let all : records_of Comma bytes ≡ h.headed.header ∷ records default_config rest.now =
     ap (records default_config) text ∙ text-cut (strip_bom h.line) rest.now h.headed.ends
     ∙ ap (λ first. first ++ records default_config rest.now) h.headed.records in
     record {
-      table = table-placed layout bytes h.headed.header (records default_config rest.now) h.few (rw h.commas all) places h.headed.placed;
+      table = table-placed limits layout bytes h.headed.header (records default_config rest.now) h.few (rw h.commas all) places h.headed.placed;
       none_read = refl;
       reading = (
         h.plain,
-        omega (arith, length_records_from 44 (length rest.now + 1) st.StartRecord rest.now, h.few, ap length h.whole, length-append h.line rest.now),
+        omega (arith, length_records_from 44 (length rest.now + 1) st.StartRecord rest.now, h.few, file_fits limits, ap length h.whole, length-append h.line rest.now),
       );
     }
 
 -- a file that is cut after its first line
-pub header_cut : (layout : Layout) (bytes : List ℕ) (r : Option (Bor (List ℕ) × Places)) → IfSome r (λ found. IsHeaded layout bytes found.0.now found.1)
-    → IfSome r (λ found. IsUnreadFile layout bytes (Text found.0 0) found.1)
-header_cut layout bytes None h = h
-header_cut layout bytes (Some found) h = header-unread layout bytes found.0 found.1 h
+pub header_cut : (limits : Limits) (layout : Layout) (bytes : List ℕ) (r : Option (Bor (List ℕ) × Places)) → IfSome r (λ found. IsHeaded limits layout bytes found.0.now found.1)
+    → IfSome r (λ found. IsUnreadFile limits layout bytes (Text found.0 0) found.1)
+header_cut limits layout bytes None h = h
+header_cut limits layout bytes (Some found) h = header-unread limits layout bytes found.0 found.1 h
 
 -- a file that a reader reads
-pub opened_unread : (layout : Layout) (bytes : List ℕ) (rows : RowsOf) (places : Places) → IsOpenedTable layout bytes rows places
-    → IsUnreadFile layout bytes (Rows rows) places
-opened_unread layout bytes rows places opened = record {
-  table = table-opened layout bytes rows places opened;
+pub opened_unread : (limits : Limits) (layout : Layout) (bytes : List ℕ) (rows : RowsOf) (places : Places) → IsOpenedTable limits layout bytes rows places
+    → IsUnreadFile limits layout bytes (Rows rows) places
+opened_unread limits layout bytes rows places opened = record {
+  table = table-opened limits layout bytes rows places opened;
   none_read = opened.behind.none_read;
   reading = opened.behind.reading;
 }

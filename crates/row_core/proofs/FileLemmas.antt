@@ -4,6 +4,8 @@ use Rattle.std.proofs.Common.{refl, ap, inl, inr, arith, le-ltb, lt-ltb}
 use Rattle.std.specs.Bool.{MatchBool}
 use Rattle.csv.specs.Reading.{is_bom, strip_bom}
 use Rattle.csv.specs.declared.parser.State.TheVariants as st
+use Rattle.number_core.specs.declared.limits.Limits.{Limits}
+use Rattle.number_core.specs.declared.limits.Limits.TheVariants.{Any, Boxes}
 use Rattle.format_core.specs.declared.layout.Delimiter.{Delimiter}
 use Rattle.format_core.specs.declared.layout.Delimiter.TheVariants.{Comma}
 use Rattle.format_core.specs.declared.layout.Layout.{Layout}
@@ -15,23 +17,28 @@ use Rattle.row_core.specs.declared.read_fault.ReadFault.TheVariants.{Io, TooLong
 use Rattle.row_core.specs.Beginnings.{IsHeaderFault}
 use Rattle.row_core.specs.Limits.{most_file_bytes}
 use Rattle.row_core.specs.Records.{Record, records_of}
-use Rattle.row_core.specs.Rows.{AreBehindHeader, AreRows, FileGives, HasNoFirst, IsHeader, last_row, rows_left}
+use Rattle.row_core.specs.Rows.{AreBehindHeader, AreRows, FileGives, HasNoFirst, IsHeader, last_row, most_rows, rows_left}
 use Rattle.row_core.specs.Tables.{ArePlaces, IsOpenedTable, IsTable, IsTableBehind, Table, TableGives}
 use Rattle.row_core.specs.Sources.{IsReadingFault}
 use Rattle.row_core.proofs.RecordLemmas.{length_records_from}
 
-module _ (columns : List (List ℕ)) (bytes : List ℕ) (few : length bytes ≤ most_file_bytes) where
+-- the rows of a file of any limits can be numbered
+pub file_fits : (limits : Limits) → most_file_bytes limits ≤ most_rows
+file_fits Boxes = omega arith
+file_fits Any = omega arith
+
+module _ (limits : Limits) (columns : List (List ℕ)) (bytes : List ℕ) (few : length bytes ≤ most_file_bytes limits) where
   -- the rows after a header with these columns
-  pub rows-headed : (header : Record) (rows : List Record) → records_of Comma bytes ≡ header ∷ rows → IsHeader columns header → AreRows columns bytes (Ok rows)
-  rows-headed header rows records headed = rw (le-ltb most_file_bytes (length bytes) few, records) (inl (headed, refl))
+  pub rows-headed : (header : Record) (rows : List Record) → records_of Comma bytes ≡ header ∷ rows → IsHeader columns header → AreRows limits columns bytes (Ok rows)
+  rows-headed header rows records headed = rw (le-ltb (most_file_bytes limits) (length bytes) few, records) (inl (headed, refl))
 
   pub rows-unheaded : (header : Record) (rows : List Record) → records_of Comma bytes ≡ header ∷ rows → ¬ (IsHeader columns header)
-      → (fault : ReadFault) → IsHeaderFault bytes fault → AreRows columns bytes (Err fault)
-  rows-unheaded header rows records unheaded fault says = rw (le-ltb most_file_bytes (length bytes) few, records) (inr (unheaded, says))
+      → (fault : ReadFault) → IsHeaderFault bytes fault → AreRows limits columns bytes (Err fault)
+  rows-unheaded header rows records unheaded fault says = rw (le-ltb (most_file_bytes limits) (length bytes) few, records) (inr (unheaded, says))
 
 -- a file without a first record
-pub rows-headless : (columns : List (List ℕ)) (bytes : List ℕ) (fault : ReadFault) → HasNoFirst Comma bytes fault → AreRows columns bytes (Err fault)
-rows-headless columns bytes fault none = by (nat_lt most_file_bytes (length bytes)) none
+pub rows-headless : (limits : Limits) (columns : List (List ℕ)) (bytes : List ℕ) (fault : ReadFault) → HasNoFirst limits Comma bytes fault → AreRows limits columns bytes (Err fault)
+rows-headless limits columns bytes fault none = by (nat_lt (most_file_bytes limits) (length bytes)) none
   where
     none_are : Result (List Record) ReadFault
     none_are = Err fault
@@ -41,8 +48,8 @@ rows-headless columns bytes fault none = by (nat_lt most_file_bytes (length byte
     by true is = ap Err is
     by false (empty, says) = rw empty says
 
-pub table-headless : (layout : Layout) (bytes : List ℕ) (fault : ReadFault) → HasNoFirst layout.delimiter bytes fault → IsTable layout bytes (Err fault)
-table-headless layout bytes fault none = by (nat_lt most_file_bytes (length bytes)) none
+pub table-headless : (limits : Limits) (layout : Layout) (bytes : List ℕ) (fault : ReadFault) → HasNoFirst limits layout.delimiter bytes fault → IsTable limits layout bytes (Err fault)
+table-headless limits layout bytes fault none = by (nat_lt (most_file_bytes limits) (length bytes)) none
   where
     no_table : Result Table ReadFault
     no_table = Err fault
@@ -53,19 +60,19 @@ table-headless layout bytes fault none = by (nat_lt most_file_bytes (length byte
     by false (empty, says) = rw empty says
 
 -- the rows after a header with the columns of a layout, and those of a file with another header
-module _ (layout : Layout) (bytes : List ℕ) (header : Record) (rows : List Record) (few : length bytes ≤ most_file_bytes)
+module _ (limits : Limits) (layout : Layout) (bytes : List ℕ) (header : Record) (rows : List Record) (few : length bytes ≤ most_file_bytes limits)
     (records : records_of layout.delimiter bytes ≡ header ∷ rows) where
-  pub table-placed : (places : Places) → ArePlaces layout.columns header places → IsTable layout bytes (Ok (record { places = places; rows = rows }))
-  table-placed places placed = rw (le-ltb most_file_bytes (length bytes) few, records) (inl (places, placed, refl))
+  pub table-placed : (places : Places) → ArePlaces layout.columns header places → IsTable limits layout bytes (Ok (record { places = places; rows = rows }))
+  table-placed places placed = rw (le-ltb (most_file_bytes limits) (length bytes) few, records) (inl (places, placed, refl))
 
   pub table-unplaced : ((places : Places) → ¬ (ArePlaces layout.columns header places)) → (fault : ReadFault) → IsHeaderFault bytes fault
-      → IsTable layout bytes (Err fault)
-  table-unplaced none fault says = rw (le-ltb most_file_bytes (length bytes) few, records) (inr (none, says))
+      → IsTable limits layout bytes (Err fault)
+  table-unplaced none fault says = rw (le-ltb (most_file_bytes limits) (length bytes) few, records) (inr (none, says))
 
-pub table-opened : (layout : Layout) (bytes : List ℕ) (rows : Rows) (places : Places) → IsOpenedTable layout bytes rows places
-    → IsTable layout bytes (Ok (record { places = places; rows = rows_left rows }))
-table-opened layout bytes rows places opened =
-    table-placed layout bytes (last_row rows) (rows_left rows) opened.behind.short opened.behind.records places opened.placed
+pub table-opened : (limits : Limits) (layout : Layout) (bytes : List ℕ) (rows : Rows) (places : Places) → IsOpenedTable limits layout bytes rows places
+    → IsTable limits layout bytes (Ok (record { places = places; rows = rows_left rows }))
+table-opened limits layout bytes rows places opened =
+    table-placed limits layout bytes (last_row rows) (rows_left rows) opened.behind.short opened.behind.records places opened.placed
 
 strip-le : (bytes : List ℕ) → length (strip_bom bytes) ≤ length bytes
 unfolding strip_bom
@@ -83,22 +90,22 @@ pub length-records_of : (delimiter : Delimiter) (bytes : List ℕ) → length (r
 length-records_of delimiter bytes = omega (arith, length_records_from (delimiter_byte delimiter) (length (strip_bom bytes) + 1) st.StartRecord (strip_bom bytes), strip-le bytes)
 
 -- a file that is not read to its end, for its length if it is known
-pub table-unread : {A : Type 0} (layout : Layout) (RowGives : Places → ℕ → A → Record → Result A ReadFault → Type 0) (start : A)
+pub table-unread : {A : Type 0} (limits : Limits) (layout : Layout) (RowGives : Places → ℕ → A → Record → Result A ReadFault → Type 0) (start : A)
     (left : Option (List ℕ)) (fault : ReadFault) → IsReadingFault fault
-    → (fault ≡ TooLong → IfSome left (λ bytes. most_file_bytes < length bytes)) → fault ≢ Io → fault ≢ Memory
-    → IfSome left (λ bytes. TableGives layout RowGives start bytes (Err fault))
-table-unread layout RowGives start None fault is long no_io no_memory = tt
-table-unread layout RowGives start (Some bytes) fault (inl io) long no_io no_memory = absurd (no_io io)
-table-unread layout RowGives start (Some bytes) fault (inr (inl too_long)) long no_io no_memory =
-    (Err TooLong, rw (lt-ltb most_file_bytes (length bytes) (long too_long)) refl, ap Err too_long)
-table-unread layout RowGives start (Some bytes) fault (inr (inr memory)) long no_io no_memory = absurd (no_memory memory)
+    → (fault ≡ TooLong → IfSome left (λ bytes. most_file_bytes limits < length bytes)) → fault ≢ Io → fault ≢ Memory
+    → IfSome left (λ bytes. TableGives limits layout RowGives start bytes (Err fault))
+table-unread limits layout RowGives start None fault is long no_io no_memory = tt
+table-unread limits layout RowGives start (Some bytes) fault (inl io) long no_io no_memory = absurd (no_io io)
+table-unread limits layout RowGives start (Some bytes) fault (inr (inl too_long)) long no_io no_memory =
+    (Err TooLong, rw (lt-ltb (most_file_bytes limits) (length bytes) (long too_long)) refl, ap Err too_long)
+table-unread limits layout RowGives start (Some bytes) fault (inr (inr memory)) long no_io no_memory = absurd (no_memory memory)
 
-pub file-unread : {A : Type 0} (columns : List (List ℕ)) (RowGives : ℕ → A → Record → Result A ReadFault → Type 0) (start : A)
+pub file-unread : {A : Type 0} (limits : Limits) (columns : List (List ℕ)) (RowGives : ℕ → A → Record → Result A ReadFault → Type 0) (start : A)
     (left : Option (List ℕ)) (fault : ReadFault) → IsReadingFault fault
-    → (fault ≡ TooLong → IfSome left (λ bytes. most_file_bytes < length bytes)) → fault ≢ Io → fault ≢ Memory
-    → IfSome left (λ bytes. FileGives columns RowGives start bytes (Err fault))
-file-unread columns RowGives start None fault is long no_io no_memory = tt
-file-unread columns RowGives start (Some bytes) fault (inl io) long no_io no_memory = absurd (no_io io)
-file-unread columns RowGives start (Some bytes) fault (inr (inl too_long)) long no_io no_memory =
-    (Err TooLong, rw (lt-ltb most_file_bytes (length bytes) (long too_long)) refl, ap Err too_long)
-file-unread columns RowGives start (Some bytes) fault (inr (inr memory)) long no_io no_memory = absurd (no_memory memory)
+    → (fault ≡ TooLong → IfSome left (λ bytes. most_file_bytes limits < length bytes)) → fault ≢ Io → fault ≢ Memory
+    → IfSome left (λ bytes. FileGives limits columns RowGives start bytes (Err fault))
+file-unread limits columns RowGives start None fault is long no_io no_memory = tt
+file-unread limits columns RowGives start (Some bytes) fault (inl io) long no_io no_memory = absurd (no_io io)
+file-unread limits columns RowGives start (Some bytes) fault (inr (inl too_long)) long no_io no_memory =
+    (Err TooLong, rw (lt-ltb (most_file_bytes limits) (length bytes) (long too_long)) refl, ap Err too_long)
+file-unread limits columns RowGives start (Some bytes) fault (inr (inr memory)) long no_io no_memory = absurd (no_memory memory)

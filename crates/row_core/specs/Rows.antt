@@ -4,6 +4,7 @@ use Rattle.std.specs.Prelude.{nat_lt, Result, Ok, Err, IsErrAnd, MatchResult}
 use Rattle.std.specs.Bool.{MatchBool}
 use Rattle.std.specs.Char.{to_ascii_lowercase}
 use Rattle.csv.specs.Records.{fields_of}
+use Rattle.number_core.specs.declared.limits.Limits.{Limits}
 use Rattle.format_core.specs.declared.layout.Delimiter.{Delimiter}
 use Rattle.format_core.specs.declared.layout.Delimiter.TheVariants.{Comma}
 use Rattle.row_core.specs.declared.read_fault.ReadFault.{ReadFault}
@@ -29,10 +30,11 @@ AreBehindHeader columns bytes (header ∷ others) rows =
     (IsHeader columns header × (rows ≡ Ok others))
     ⊎ (¬ (IsHeader columns header) × IsErrAnd rows (IsHeaderFault bytes))
 
--- the rows of a file with these columns and a permitted number of bytes, or why there are none
-abbrev pub AreRows : List (List ℕ) → List ℕ → Result (List Record) ReadFault → Type 0
-AreRows columns bytes rows =
-    MatchBool (nat_lt most_file_bytes (length bytes))
+-- the rows of a file with these columns and a number of bytes that the limits permit, or why there
+-- are none
+abbrev pub AreRows : Limits → List (List ℕ) → List ℕ → Result (List Record) ReadFault → Type 0
+AreRows limits columns bytes rows =
+    MatchBool (nat_lt (most_file_bytes limits) (length bytes))
     (rows ≡ Err TooLong)
     (AreBehindHeader columns bytes (records_of Comma bytes) rows)
 
@@ -45,11 +47,12 @@ RowsGive {A} RowGives n sofar (row ∷ rows) answer =
     (next : Result A ReadFault) × RowGives n sofar row next
     × MatchResult next (λ a. RowsGive RowGives (n + 1) a rows answer) (λ fault. answer ≡ Err fault)
 
--- the result of a file with these columns: that of its rows, numbered from 1, or why it has none
-abbrev pub FileGives : {A : Type 0} → List (List ℕ) → (ℕ → A → Record → Result A ReadFault → Type 0)
-    → A → List ℕ → Result A ReadFault → Type 0
-FileGives columns RowGives start bytes answer =
-    (rows : Result (List Record) ReadFault) × AreRows columns bytes rows
+-- the result of a file with these limits and columns: that of its rows, numbered from 1, or why it
+-- has none
+abbrev pub FileGives : {A : Type 0} → Limits → List (List ℕ)
+    → (ℕ → A → Record → Result A ReadFault → Type 0) → A → List ℕ → Result A ReadFault → Type 0
+FileGives limits columns RowGives start bytes answer =
+    (rows : Result (List Record) ReadFault) × AreRows limits columns bytes rows
     × MatchResult rows (λ rows. RowsGive RowGives 1 start rows answer) (λ fault. answer ≡ Err fault)
 
 -- ---- reading them
@@ -80,25 +83,25 @@ pub record IsReading (rows : Rows) : Type 0 where
   pub few : rows_read rows + length (rows_left rows) ≤ most_rows
 
 -- the rows of a file behind its first record, which was read last
-pub record IsBehindFirst (delimiter : Delimiter) (bytes : List ℕ) (rows : Rows) : Type 0 where
-  pub short : length bytes ≤ most_file_bytes
+pub record IsBehindFirst (limits : Limits) (delimiter : Delimiter) (bytes : List ℕ) (rows : Rows)
+    : Type 0 where
+  pub short : length bytes ≤ most_file_bytes limits
   pub records : records_of delimiter bytes ≡ last_row rows ∷ rows_left rows
   pub closed : has_unended rows ≡ false → IsClosed (last_row rows)
-  pub few : length (rows_left rows) ≤ most_file_bytes
   pub none_read : rows_read rows ≡ 0
   pub reading : IsReading rows
 
 -- why a file has no first record
-abbrev pub HasNoFirst : Delimiter → List ℕ → ReadFault → Type 0
-HasNoFirst delimiter bytes fault =
-    MatchBool (nat_lt most_file_bytes (length bytes))
+abbrev pub HasNoFirst : Limits → Delimiter → List ℕ → ReadFault → Type 0
+HasNoFirst limits delimiter bytes fault =
+    MatchBool (nat_lt (most_file_bytes limits) (length bytes))
     (fault ≡ TooLong)
     ((records_of delimiter bytes ≡ []) × IsHeaderFault bytes fault)
 
 -- the rows of a file with these columns, before any was read
-pub record IsOpened (columns : List (List ℕ)) (bytes : List ℕ) (rows : Rows) : Type 0 where
-  pub behind_header : AreRows columns bytes (Ok (rows_left rows))
-  pub few : length (rows_left rows) ≤ most_file_bytes
+pub record IsOpened (limits : Limits) (columns : List (List ℕ)) (bytes : List ℕ) (rows : Rows)
+    : Type 0 where
+  pub behind_header : AreRows limits columns bytes (Ok (rows_left rows))
   pub none_read : rows_read rows ≡ 0
   pub reading : IsReading rows
 

@@ -4,6 +4,7 @@ use Rattle.std.specs.Prelude.{nat_lt, Option, Some, None, Result, Ok, Err, IsErr
 use Rattle.std.specs.Bool.{MatchBool}
 use Rattle.std.specs.Borrow.{Bor}
 use Rattle.std.specs.Char.{to_ascii_lowercase}
+use Rattle.number_core.specs.declared.limits.Limits.{Limits}
 use Rattle.format_core.specs.declared.layout.Columns.{Columns}
 use Rattle.format_core.specs.declared.layout.Columns.TheVariants.{Exact, Named}
 use Rattle.format_core.specs.declared.layout.Layout.{Layout}
@@ -78,24 +79,26 @@ IsTableBehind columns bytes (header ∷ others) table =
     ⊎ (((places : Places) → ¬ (ArePlaces columns header places))
     × IsErrAnd table (IsHeaderFault bytes))
 
--- the rows of a file with this layout and a permitted number of bytes, or why there are none
-abbrev pub IsTable : Layout → List ℕ → Result Table ReadFault → Type 0
-IsTable layout bytes table =
-    MatchBool (nat_lt most_file_bytes (length bytes))
+-- the rows of a file with this layout and a number of bytes that the limits permit, or why there
+-- are none
+abbrev pub IsTable : Limits → Layout → List ℕ → Result Table ReadFault → Type 0
+IsTable limits layout bytes table =
+    MatchBool (nat_lt (most_file_bytes limits) (length bytes))
     (table ≡ Err TooLong)
     (IsTableBehind layout.columns bytes (records_of layout.delimiter bytes) table)
 
--- the result of a file with this layout: that of its rows, numbered from 1, or why it has none
-abbrev pub TableGives : {A : Type 0} → Layout
+-- the result of a file with these limits and this layout: that of its rows, numbered from 1, or why
+-- it has none
+abbrev pub TableGives : {A : Type 0} → Limits → Layout
     → (Places → ℕ → A → Record → Result A ReadFault → Type 0) → A → List ℕ → Result A ReadFault
     → Type 0
-TableGives layout RowGives start bytes answer =
-    (table : Result Table ReadFault) × IsTable layout bytes table
+TableGives limits layout RowGives start bytes answer =
+    (table : Result Table ReadFault) × IsTable limits layout bytes table
     × MatchResult table (λ t. RowsGive (RowGives t.places) 1 start t.rows answer)
     (λ fault. answer ≡ Err fault)
 
 -- the rows of a file with this layout, before any was read, and the places of its columns
-pub record IsOpenedTable (layout : Layout) (bytes : List ℕ) (rows : Rows) (places : Places)
-    : Type 0 where
-  pub behind : IsBehindFirst layout.delimiter bytes rows
+pub record IsOpenedTable (limits : Limits) (layout : Layout) (bytes : List ℕ) (rows : Rows)
+    (places : Places) : Type 0 where
+  pub behind : IsBehindFirst limits layout.delimiter bytes rows
   pub placed : ArePlaces layout.columns (last_row rows) places

@@ -2,6 +2,7 @@
 use Rattle.std.specs.Prelude.{◌≡◌, ◌≤◌, ◌+◌, ℕ, List, [], ◌∷◌, ◌++◌, length, Ok}
 use Rattle.csv.specs.Reading.{default_config, records, strip_bom}
 use Rattle.csv.specs.declared.parser.State.TheVariants.{StartRecord}
+use Rattle.number_core.specs.declared.limits.Limits.{Limits}
 use Rattle.format_core.specs.declared.layout.Columns.{Columns}
 use Rattle.format_core.specs.declared.layout.Delimiter.TheVariants.{Comma}
 use Rattle.format_core.specs.declared.layout.Layout.{Layout}
@@ -30,10 +31,11 @@ IsUnread (Text text count) =
     IsPlain text.now × (count + length (records default_config text.now) ≤ most_rows)
 IsUnread (Rows rows) = IsReading rows
 
--- all rows of a file with this layout, and the places of its columns
-pub record IsUnreadFile (layout : Layout) (bytes : List ℕ) (unread : Unread) (places : Places)
-    : Type 0 where
-  pub table : IsTable layout bytes (Ok (record { places = places; rows = records_unread unread }))
+-- all rows of a file with these limits and this layout, and the places of its columns
+pub record IsUnreadFile (limits : Limits) (layout : Layout) (bytes : List ℕ) (unread : Unread)
+    (places : Places) : Type 0 where
+  pub table : IsTable limits layout bytes
+      (Ok (record { places = places; rows = records_unread unread }))
   pub none_read : count_unread unread ≡ 0
   pub reading : IsUnread unread
 
@@ -47,10 +49,11 @@ pub record IsHeaderLine (columns : Columns) (line : List ℕ) (places : Places) 
   pub long : 3 ≤ length line
 
 -- a file with commas whose first line consists of the header alone, and whose rest is plain
-pub record IsHeaded (layout : Layout) (bytes rest : List ℕ) (places : Places) : Type 0 where
+pub record IsHeaded (limits : Limits) (layout : Layout) (bytes rest : List ℕ) (places : Places)
+    : Type 0 where
   pub commas : layout.delimiter ≡ Comma
   pub line : List ℕ
   pub whole : line ++ rest ≡ bytes
-  pub few : length bytes ≤ most_file_bytes
+  pub few : length bytes ≤ most_file_bytes limits
   pub headed : IsHeaderLine layout.columns line places
   pub plain : IsPlain rest

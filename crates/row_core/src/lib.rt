@@ -23,5 +23,5 @@ pub use layer_row::{LayerRowReader, ReadRow, read_row};
 pub use read_fault::ReadFault;
 pub use row_reader::RowReader;
 pub use rows::Rows;
-pub use source::{Failed, FromRead, MAX_FILE_BYTES, Source, read_all};
+pub use source::{Failed, FromRead, Source, max_file_bytes, read_all};
 pub use unread::Unread;

@@ -14,7 +14,7 @@ pub enum ReadFault {
     /// A read failed.
     #[error("read failed")]
     Io,
-    /// The file has more than [`crate::MAX_FILE_BYTES`] bytes.
+    /// The file has more than [`crate::max_file_bytes`] bytes.
     #[error("file is too long")]
     TooLong,
     /// The file doesn't begin with the names of its columns, but with this.

@@ -11,9 +11,10 @@ use crate::beginning::Beginning;
 use crate::ends::is_unended;
 use crate::header::{Places, is_header, places_in};
 use crate::read_fault::ReadFault;
-use crate::source::MAX_FILE_BYTES;
+use crate::source::max_file_bytes;
 use csv::{ByteRecord, Error, Reader, ReaderBuilder};
 use format_core::{Delimiter, Layout};
+use number_core::Limits;
 use std::alloc::{AllocError, Global};
 
 /// The rows of a file, in turn.
@@ -46,16 +47,22 @@ impl<'a> Rows<'a> {
 
     /// The rows of a file with commas after its header, which must name these columns in any ASCII
     /// case.
-    pub fn open(alloc: Global, file: &'a [u8], columns: &[&str]) -> Result<Rows<'a>, ReadFault>
+    pub fn open(
+        alloc: Global,
+        limits: Limits,
+        file: &'a [u8],
+        columns: &[&str],
+    ) -> Result<Rows<'a>, ReadFault>
         // the rows of a file, those of its CSV records behind its header
-        ensures ok { IfOk result (λ rows. IsOpened (map (λ c. c.now) columns.now) file.now rows) }
+        ensures ok { IfOk result
+            (λ rows. IsOpened limits (map (λ c. c.now) columns.now) file.now rows) }
         // why it has none, unless memory is refused
         ensures err { IfErr result (λ fault. fault ≢ ReadFault.Memory
-            → AreRows (map (λ c. c.now) columns.now) file.now (Err fault)) }
+            → AreRows limits (map (λ c. c.now) columns.now) file.now (Err fault)) }
         // never `Io`
         ensures no_io { result ≢ Err ReadFault.Io }
     {
-        let rows = Rows::behind_first(alloc, Delimiter::Comma, file)?;
+        let rows = Rows::behind_first(alloc, limits, Delimiter::Comma, file)?;
         if !is_header(rows.row(), columns) {
             return Err(ReadFault::Header(Beginning::new(file)));
         }
@@ -65,15 +72,17 @@ impl<'a> Rows<'a> {
     /// The rows of a layer's file after its header, and the places of the columns that are read.
     pub(crate) fn open_table(
         alloc: Global,
+        limits: Limits,
         file: &'a [u8],
         layout: Layout<'_>,
     ) -> Result<(Rows<'a>, Places), ReadFault>
-        ensures ok { IfOk result (λ opened. IsOpenedTable layout.entry file.now opened.0 opened.1) }
+        ensures ok { IfOk result
+            (λ opened. IsOpenedTable limits layout.entry file.now opened.0 opened.1) }
         ensures err { IfErr result (λ fault. fault ≢ ReadFault.Memory
-            → IsTable layout.entry file.now (Err fault)) }
+            → IsTable limits layout.entry file.now (Err fault)) }
         ensures no_io { result ≢ Err ReadFault.Io }
     {
-        let rows = Rows::behind_first(alloc, layout.delimiter, file)?;
+        let rows = Rows::behind_first(alloc, limits, layout.delimiter, file)?;
         let Some(places) = places_in(rows.row(), layout.columns) else {
             return Err(ReadFault::Header(Beginning::new(file)));
         };
@@ -83,15 +92,16 @@ impl<'a> Rows<'a> {
     /// The rows of a file after its first record, which is the last one read.
     fn behind_first(
         alloc: Global,
+        limits: Limits,
         delimiter: Delimiter,
         file: &'a [u8],
     ) -> Result<Rows<'a>, ReadFault>
-        ensures ok { IfOk result (IsBehindFirst delimiter file.now) }
+        ensures ok { IfOk result (IsBehindFirst limits delimiter file.now) }
         ensures err { IfErr result (λ fault. fault ≢ ReadFault.Memory
-            → HasNoFirst delimiter file.now fault) }
+            → HasNoFirst limits delimiter file.now fault) }
         ensures no_io { result ≢ Err ReadFault.Io }
     {
-        if file.len() > MAX_FILE_BYTES {
+        if file.len() > max_file_bytes(limits) {
             return Err(ReadFault::TooLong);
         }
         let mut records = records(alloc, delimiter, file)?;

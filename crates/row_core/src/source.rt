@@ -7,12 +7,21 @@ ghost use Rattle.row_core.specs.Limits.{most_file_bytes};
 ghost use Rattle.row_core.specs.Sources.{IsReadingFault};
 
 use crate::read_fault::ReadFault;
+use number_core::Limits;
 use std::alloc::Global;
 use std::io::{ErrorKind, Read};
 use thiserror::Error;
 
-/// The greatest number of bytes of a file.
-pub const MAX_FILE_BYTES: usize = 134_217_728;
+/// The greatest number of bytes of a file with these limits.
+pub fn max_file_bytes(limits: Limits) -> usize
+    // 134,217,728 of boxes, or 4,294,967,295 of geometries of any kind
+    ensures { result ≡ most_file_bytes limits }
+{
+    match limits {
+        Limits::Boxes => 134_217_728,
+        Limits::Any => 4_294_967_295,
+    }
+}
 
 /// The number of bytes that one read asks for.
 const CHUNK: usize = 65_536;
@@ -112,23 +121,28 @@ impl<R: Read> Source for FromRead<R> {
 ///
 /// # Errors
 /// [`ReadFault::Io`] if a read fails, [`ReadFault::TooLong`] if there are more than
-/// [`MAX_FILE_BYTES`] bytes, and [`ReadFault::Memory`].
-pub fn read_all<S: Source>(alloc: Global, source: &mut S) -> Result<Vec<u8>, ReadFault>
+/// [`max_file_bytes`] bytes, and [`ReadFault::Memory`].
+pub fn read_all<S: Source>(
+    alloc: Global,
+    limits: Limits,
+    source: &mut S,
+) -> Result<Vec<u8>, ReadFault>
     requires { S.has_failed source.old ≡ false }
     // all that are left
     ensures bytes { IfOk result
         (λ all. IfSome (S.remaining source.old) (λ left. all.items ≡ left)) }
-    // at most 134,217,728
-    ensures few { IfOk result (λ all. length all.items ≤ most_file_bytes) }
+    // at most as many as the limits allow
+    ensures few { IfOk result (λ all. length all.items ≤ most_file_bytes limits) }
     // `TooLong` comes only where there are more
     ensures too_long { IsErrOf result ReadFault.TooLong
-        → IfSome (S.remaining source.old) (λ left. most_file_bytes < length left) }
+        → IfSome (S.remaining source.old) (λ left. most_file_bytes limits < length left) }
     // `Io` exactly where the reader has failed
     ensures io { IsErrOf result ReadFault.Io ↔ IsTrue (S.has_failed source.new) }
     // no fault of what the bytes say
     ensures others { IfErr result IsReadingFault }
 {
-    let mut all = Vec::with_capacity(alloc, source.likely_len().min(MAX_FILE_BYTES))?;
+    let most = max_file_bytes(limits);
+    let mut all = Vec::with_capacity(alloc, source.likely_len().min(most))?;
     let mut chunk = [0; CHUNK];
     loop {
         let Ok(count) = source.read(&mut chunk) else {
@@ -137,7 +151,7 @@ pub fn read_all<S: Source>(alloc: Global, source: &mut S) -> Result<Vec<u8>, Rea
         if count == 0 {
             return Ok(all);
         }
-        if count > MAX_FILE_BYTES - all.len() {
+        if count > most - all.len() {
             return Err(ReadFault::TooLong);
         }
         all.extend_from_slice(&chunk[..count])?;

@@ -10,8 +10,9 @@ use crate::ends::{ends_with_feed, is_plain};
 use crate::header::Places;
 use crate::read_fault::ReadFault;
 use crate::rows::Rows;
-use crate::source::MAX_FILE_BYTES;
+use crate::source::max_file_bytes;
 use format_core::{Delimiter, Layout};
+use number_core::Limits;
 use std::alloc::{AllocError, Global};
 
 /// The number of bytes of a byte order mark.
@@ -30,21 +31,22 @@ impl<'a> Unread<'a> {
     /// The rows of a file with this layout, and the places of the columns that are read.
     pub fn open(
         alloc: Global,
+        limits: Limits,
         bytes: &'a [u8],
         layout: Layout<'_>,
     ) -> Result<(Unread<'a>, Places), ReadFault>
         // all rows of a layer's file, whose layout says how it is read: exactly the columns
         // `id,wkt`, or the columns with the given names, at the places where the header has them
-        ensures ok { IfOk result (λ opened. IsUnreadFile layout.entry bytes.now opened.0 opened.1) }
+        ensures ok { IfOk result (λ opened. IsUnreadFile limits layout.entry bytes.now opened.0 opened.1) }
         // why it has none, unless memory is refused
         ensures err { IfErr result (λ fault. fault ≢ ReadFault.Memory
-            → IsTable layout.entry bytes.now (Err fault)) }
+            → IsTable limits layout.entry bytes.now (Err fault)) }
         // never `Io`
         ensures no_io { result ≢ Err ReadFault.Io }
     {
-        match behind_header(alloc, bytes, layout) {
+        match behind_header(alloc, limits, bytes, layout) {
             Some((text, places)) => Ok((Unread::Text(text, 0), places)),
-            None => open_rows(alloc, bytes, layout),
+            None => open_rows(alloc, limits, bytes, layout),
         }
     }
 
@@ -68,15 +70,16 @@ impl<'a> Unread<'a> {
 #[tactic(auto, using(crate::proofs::EndLemmas::opened_unread))]
 fn open_rows<'a>(
     alloc: Global,
+    limits: Limits,
     bytes: &'a [u8],
     layout: Layout<'_>,
 ) -> Result<(Unread<'a>, Places), ReadFault>
-    ensures ok { IfOk result (λ opened. IsUnreadFile layout.entry bytes.now opened.0 opened.1) }
+    ensures ok { IfOk result (λ opened. IsUnreadFile limits layout.entry bytes.now opened.0 opened.1) }
     ensures err { IfErr result (λ fault. fault ≢ ReadFault.Memory
-        → IsTable layout.entry bytes.now (Err fault)) }
+        → IsTable limits layout.entry bytes.now (Err fault)) }
     ensures no_io { result ≢ Err ReadFault.Io }
 {
-    let (rows, places) = Rows::open_table(alloc, bytes, layout)?;
+    let (rows, places) = Rows::open_table(alloc, limits, bytes, layout)?;
     Ok((Unread::Rows(rows), places))
 }
 
@@ -84,30 +87,32 @@ fn open_rows<'a>(
 /// header is a line by itself.
 fn behind_header<'a>(
     alloc: Global,
+    limits: Limits,
     bytes: &'a [u8],
     layout: Layout<'_>,
 ) -> Option<(&'a [u8], Places)>
     ensures { IfSome result
-        (λ found. IsUnreadFile layout.entry bytes.now (Unread.Text found.0 0) found.1) }
+        (λ found. IsUnreadFile limits layout.entry bytes.now (Unread.Text found.0 0) found.1) }
 {
     let feed = bytes.iter().position(|byte| *byte == b'\n')?;
     let (line, rest) = bytes.split_at_checked(feed.saturating_add(1))?;
-    headed_rest(alloc, bytes, line, rest, layout)
+    headed_rest(alloc, limits, bytes, line, rest, layout)
 }
 
 /// The text after the first line of a file, if that line is the header and the text is plain.
 fn headed_rest<'a>(
     alloc: Global,
+    limits: Limits,
     bytes: &[u8],
     line: &[u8],
     rest: &'a [u8],
     layout: Layout<'_>,
 ) -> Option<(&'a [u8], Places)>
     requires { line.now ++ rest.now ≡ bytes.now }
-    ensures { IfSome result (λ found. IsHeaded layout.entry bytes.now found.0.now found.1) }
+    ensures { IfSome result (λ found. IsHeaded limits layout.entry bytes.now found.0.now found.1) }
 {
     let places = header_places(alloc, line, layout)?;
-    if bytes.len() <= MAX_FILE_BYTES && is_plain(rest) {
+    if bytes.len() <= max_file_bytes(limits) && is_plain(rest) {
         Some((rest, places))
     } else {
         None
@@ -123,7 +128,8 @@ fn header_places(alloc: Global, line: &[u8], layout: Layout<'_>) -> Option<Place
     if layout.delimiter != Delimiter::Comma || line.len() <= MARK || !ends_with_feed(line) {
         return None;
     }
-    let Ok((mut rows, places)) = Rows::open_table(alloc, line, layout) else {
+    // The length of the line alone has no limit of its own.
+    let Ok((mut rows, places)) = Rows::open_table(alloc, Limits::Any, line, layout) else {
         return None;
     };
     if !rows.has_unended() && matches!(rows.next(), Ok(None)) {

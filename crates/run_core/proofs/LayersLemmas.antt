@@ -26,20 +26,20 @@ use Rattle.run_core.proofs.EditedLayersLemmas.{handed_on, IsJoinKind}
 
 -- a source that isn't read to its end gives no layer
 pub unread_blamed : {G : Type 0} (format : Reading G) (known : Option (List ℕ)) (f : ReadFault) → IsReadingFault f
-    → (f ≡ read_faults.TooLong → IfSome known (λ bytes. most_file_bytes < length bytes)) → BlamesBytes f → LayerFile format known (Err f)
+    → (f ≡ read_faults.TooLong → IfSome known (λ bytes. most_file_bytes format.limits < length bytes)) → BlamesBytes f → LayerFile format known (Err f)
 unread_blamed format known f reading long blame =
-    table-unread format.layout (λ places. LayerRowGives (form_at format places)) empty known f reading long (λ e. subst BlamesBytes e blame) (λ e. subst BlamesBytes e blame)
+    table-unread format.limits format.layout (λ places. LayerRowGives (form_at format places)) empty known f reading long (λ e. subst BlamesBytes e blame) (λ e. subst BlamesBytes e blame)
 
 -- however it is read
 pub unread_by : {G : Type 0} (format : Reading G) (unreadable : Unreadable) (known : Option (List ℕ)) (f : ReadFault) → IsReadingFault f
-    → (f ≡ read_faults.TooLong → IfSome known (λ bytes. most_file_bytes < length bytes)) → BlamesBytes f → LayerFileBy format unreadable known (Err f)
+    → (f ≡ read_faults.TooLong → IfSome known (λ bytes. most_file_bytes format.limits < length bytes)) → BlamesBytes f → LayerFileBy format unreadable known (Err f)
 unread_by format Refuse known f reading long blame = unread_blamed format known f reading long blame
 unread_by format Skip known f reading long blame =
-    table-unread format.layout (λ places. LoadsRow (form_at format places)) (begun Skip) known f reading long (λ e. subst BlamesBytes e blame) (λ e. subst BlamesBytes e blame)
+    table-unread format.limits format.layout (λ places. LoadsRow (form_at format places)) (begun Skip) known f reading long (λ e. subst BlamesBytes e blame) (λ e. subst BlamesBytes e blame)
 
 -- a source that isn't read to its end is read as a fault
 pub unread : {G : Type 0} (format : Reading G) (known : Option (List ℕ)) (out : Result (Contents G) ReadFault) (f : ReadFault) → IsErrAnd out (λ x. x ≡ f)
-    → IsReadingFault f → (f ≡ read_faults.TooLong → IfSome known (λ bytes. most_file_bytes < length bytes)) → ReadsFeatures format known out
+    → IsReadingFault f → (f ≡ read_faults.TooLong → IfSome known (λ bytes. most_file_bytes format.limits < length bytes)) → ReadsFeatures format known out
 unread format known (Ok layer) f is reading long = absurd is
 unread format known (Err g) f is reading long = record {
   ok = tt;
@@ -93,7 +93,7 @@ module _ {G : Type 0} (format : Reading G) (unreadable : Unreadable) where
 
   -- a source that isn't read to its end is read as a fault
   pub unread_layer : (known : Option (List ℕ)) (out : Result (WithSkipped (LayerState G)) ReadFault) (f : ReadFault) → IsErrAnd out (λ x. x ≡ f)
-      → IsReadingFault f → (f ≡ read_faults.TooLong → IfSome known (λ bytes. most_file_bytes < length bytes)) → Reads format unreadable known out
+      → IsReadingFault f → (f ≡ read_faults.TooLong → IfSome known (λ bytes. most_file_bytes format.limits < length bytes)) → Reads format unreadable known out
   unread_layer known (Ok layer) f is reading long = absurd is
   unread_layer known (Err g) f is reading long = record {
     ok = tt;

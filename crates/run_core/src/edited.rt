@@ -4,7 +4,7 @@ ghost use Rattle.std.specs.Prelude.{◌≡◌, ◌↔◌, ◌≤◌, Ok, Err, fa
 ghost use Rattle.std.specs.Prelude.{IfErr, IfSome, IsErrOf, IsSomeAnd};
 ghost use Rattle.row_core.specs.declared.read_fault.ReadFault.{ReadFault};
 ghost use Rattle.layer_core.specs.Edits.{both, content_of};
-ghost use Rattle.row_core.specs.Limits.{most_file_bytes};
+ghost use Rattle.row_core.specs.Rows.{most_rows};
 ghost use Rattle.run_core.specs.declared.fault.Input.{Input};
 ghost use Rattle.run_core.specs.Inputs.{BlamesBytes};
 ghost use Rattle.run_core.specs.EditedLayers.{AreEdited, EditFile, IsEditsFault, bytes_of};
@@ -152,7 +152,7 @@ fn read_edit_list<F: Format, E: Source>(
     requires { IfSome edits.old (λ e. E.has_failed e ≡ false) }
     ensures ok { IfOk result (λ list. EditFile (F.reads format) (bytes_of E.remaining edits.old)
         (Ok (map content_of list.items))) }
-    ensures few { IfOk result (λ list. length list.items ≤ most_file_bytes) }
+    ensures few { IfOk result (λ list. length list.items ≤ most_rows) }
     ensures fault { IfErr result (λ e. (f : ReadFault) × (e ≡ RunFault.Read Input.Edits f)
         × (BlamesBytes f → EditFile (F.reads format) (bytes_of E.remaining edits.old) (Err f))) }
     ensures io { IsErrOf result (RunFault.Read Input.Edits ReadFault.Io)

@@ -33,7 +33,7 @@ pub(crate) fn read_layer<F: Format, R: Threads + Sync, S: Source>(
     ensures reads { Reads (F.reads reader.now.format) unreadable (S.remaining source.old) result }
     ensures io { IsErrOf result ReadFault.Io ↔ IsTrue (S.has_failed source.new) }
 {
-    let bytes = read_all(reader.alloc, source)?;
+    let bytes = read_all(reader.alloc, reader.format.limits(), source)?;
     build_layer(reader, unreadable, state, bytes)
 }
 
@@ -53,6 +53,6 @@ pub fn read_features<F: Format, R: Threads + Sync, S: Source>(
     // `Io` exactly where the source has failed
     ensures io { IsErrOf result ReadFault.Io ↔ IsTrue (S.has_failed source.new) }
 {
-    let bytes = read_all(reader.alloc, source)?;
+    let bytes = read_all(reader.alloc, reader.format.limits(), source)?;
     reader.features_of_bytes(state, bytes.as_slice())
 }

@@ -48,7 +48,7 @@ pub(crate) fn read_layers<R: Threads + Sync, F: Format, A: Source, B: Source>(
     ensures right_io { IsErrOf result (RunFault.Read Input.Right ReadFault.Io)
         ↔ IsTrue (B.has_failed right.new) }
 {
-    let left_bytes = match read_all(left_reader.alloc, left) {
+    let left_bytes = match read_all(left_reader.alloc, left_reader.format.limits(), left) {
         Ok(bytes) => bytes,
         Err(fault) => return Err(RunFault::Read(Input::Left, fault)),
     };

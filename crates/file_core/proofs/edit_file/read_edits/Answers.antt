@@ -10,6 +10,7 @@ returns-in_err-bytes-clause-file g c =
     let p = err_from_is_err_and c.from_residual.result c.from_residual.ensures.1 in
     rw (p.1, p.2)
     (λ no_io no_memory.
-    file-unread edit_columns (EditsRowGives (g.F.Format.reads c.args.format).text) [] (g.S.Source.remaining c.args.source.now) c.in_err-bytes.field-0.0 read.others
-    (λ e. read.too_long (ap Err e))
+    let reads = g.F.Format.reads c.args.format in
+    file-unread reads.limits edit_columns (EditsRowGives reads.text) [] (g.S.Source.remaining c.args.source.now) c.in_err-bytes.field-0.0 read.others
+    (λ e. rw c.limits.ensures at (read.too_long (ap Err e)))
     (λ e. no_io (ap Err e)) (λ e. no_memory (ap Err e)))

@@ -4,7 +4,7 @@ use Rattle.run_core.proofs.layers.read_layers.Goals as goal
 
 pub returns-in-Err-clause-fault : goal.returns-in-Err-clause-fault
 returns-in-Err-clause-fault g c =
-    unread_by (g.F.Format.reads c.args.left_reader.now.format) c.args.unreadable _ _ c.in-Err.ensures.others (λ e. c.in-Err.ensures.too_long (ap Err e))
+    unread_by (g.F.Format.reads c.args.left_reader.now.format) c.args.unreadable _ _ c.in-Err.ensures.others (λ e. rw c.limits.ensures at (c.in-Err.ensures.too_long (ap Err e)))
 
 pub returns-in-Err-right_built-clause-fault : goal.returns-in-Err-right_built-clause-fault
 returns-in-Err-right_built-clause-fault g c =

@@ -13,6 +13,6 @@ returns-in_err-bytes-clause-file g c =
     rw (p.1, p.2)
     (λ no_io no_memory.
     let reads = g.F.Format.reads c.args.self.now.format in
-    table-unread reads.layout (λ places. LayerRowGives (form_at reads places)) empty (g.S.Source.remaining c.args.source.now) c.in_err-bytes.field-0.0 read.others
-    (λ e. read.too_long (ap Err e))
+    table-unread reads.limits reads.layout (λ places. LayerRowGives (form_at reads places)) empty (g.S.Source.remaining c.args.source.now) c.in_err-bytes.field-0.0 read.others
+    (λ e. rw c.limits.ensures at (read.too_long (ap Err e)))
     (λ e. no_io (ap Err e)) (λ e. no_memory (ap Err e)))

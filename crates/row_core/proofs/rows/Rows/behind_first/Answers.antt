@@ -1,6 +1,6 @@
 use Rattle.std.proofs.Common.{◌∙◌, length, sym, ap, arith, refl}
 use Rattle.row_core.specs.Records.{records_left}
-use Rattle.row_core.proofs.FileLemmas.{length-records_of}
+use Rattle.row_core.proofs.FileLemmas.{file_fits, length-records_of}
 use Rattle.row_core.proofs.rows.Rows.behind_first.Goals as goal
 
 pub returns-clause-ok : goal.returns-clause-ok
@@ -12,7 +12,6 @@ returns-clause-ok c =
       short = omega arith;
       records = records;
       closed = c.is_unended-unended.ensures;
-      few = omega (arith, few, ap length records);
       none_read = refl;
-      reading = record { reader = takes.reading; few = omega (arith, few, ap length records) };
+      reading = record { reader = takes.reading; few = omega (arith, few, ap length records, file_fits c.args.limits) };
     }

@@ -8,8 +8,7 @@ returns-clause-ok c =
     let columns = map (λ col. col.now) c.args.columns.now in
     record {
       behind_header =
-          rows-headed columns c.args.file.now behind.short _ _ behind.records (rw c.row.ensures at (c.is_header.ensures.0 c.if-not-is_header.false));
-      few = behind.few;
+          rows-headed c.args.limits columns c.args.file.now behind.short _ _ behind.records (rw c.row.ensures at (c.is_header.ensures.0 c.if-not-is_header.false));
       none_read = behind.none_read;
       reading = behind.reading;
     }
