@@ -28,4 +28,4 @@ class Limits(NamedTuple):
 
 # Points, axis-parallel segments and rectangles alone, and any geometry.
 BOXES = Limits(decimals=6, units=10 ** 12, bytes=134_217_728, features=1_000_000)
-ANY = Limits(decimals=15, units=10 ** 18, bytes=134_217_728, features=1_000_000)
+ANY = Limits(decimals=15, units=10 ** 18, bytes=4_294_967_295, features=1_000_000)

@@ -17,7 +17,7 @@ from rjoin_cluster.answers import read_answer
 from rjoin_cluster.commands import JOIN, PAIRS
 from rjoin_cluster.faults import JoinFault, ProgramFault, RunFailed
 from rjoin_cluster.ids import FILL, IdTable, hashes_of
-from rjoin_cluster.program import HEADER, MOST_BYTES, Program, RowFault
+from rjoin_cluster.program import HEADER, Program, RowFault
 from rjoin_cluster.records import BYTE_ORDER_MARK, Places, record_ends
 from rjoin_cluster.sides import SIDES, Side
 
@@ -70,11 +70,12 @@ class Changes(NamedTuple):
 
 def read_edits(file: BinaryIO, program: Program) -> EditFile:
     """The edits of a file, as the program reads it."""
+    most = program.reading.limits.bytes
     try:
-        text = file.read(MOST_BYTES + 1)
+        text = file.read(most + 1)
     except OSError:
         return EditFile(b"", [], ProgramFault("rjoin: edits: read failed"))
-    if len(text) > MOST_BYTES:
+    if len(text) > most:
         return EditFile(text, [], ProgramFault("rjoin: edits: file is too long"))
     fault = fault_of(program, text, [HEADER], [HEADER])
     if fault is not None and REFUSED.fullmatch(f"{fault}\n") is None:

@@ -15,11 +15,13 @@ from typing import IO, Iterable, Iterator, Mapping, Optional, Sequence, Union
 import numpy as np
 
 from rjoin_cluster.faults import JoinFault, ProgramFault, RunFailed
-from rjoin_cluster.reading import Reading
+from rjoin_cluster.reading import BOXES, Reading
 from rjoin_cluster.records import Bytes
 
+# What a run is given at most: as much as the program takes of boxes. Of other geometries it takes
+# more, which would not be faster.
 MOST_FEATURES = 1_000_000
-MOST_BYTES = 134_217_728
+MOST_BYTES = BOXES.bytes
 HEADER = b"id,wkt\n"
 # What the program may say of a fault, on a line of its own.
 HINT = r"(?:\n(.*))?"

@@ -9,15 +9,18 @@ BOX = "box"
 
 @dataclass(frozen=True)
 class Limits:
-    """What the program takes: units of a coordinate and of a distance, and decimals of both."""
+    """What the program takes: units of a coordinate and of a distance, decimals of both, and bytes
+    of a file.
+    """
 
     coordinate: int
     distance: int
     decimals: int
+    bytes: int
 
 
-BOXES = Limits(10**12, 4 * 10**12, 6)
-ANY = Limits(10**18, 4 * 10**18, 15)
+BOXES = Limits(10**12, 4 * 10**12, 6, 134_217_728)
+ANY = Limits(10**18, 4 * 10**18, 15, 4_294_967_295)
 
 
 @dataclass(frozen=True)
