@@ -26,6 +26,7 @@ WORDS = [JOIN, "--relation=equals", PAIRS]
 REFUSED = re.compile(r"rjoin: edits: row \d+: (id is already there|no such id)\n")
 FIELD = re.compile(rb'(?:"((?:[^"]|"")*)"|([^,]*))(?:,|\Z)')
 INSERT = b"insert"
+READ_AT_ONCE = 2**25
 
 
 @dataclass(frozen=True)
@@ -72,7 +73,7 @@ def read_edits(file: BinaryIO, program: Program) -> EditFile:
     """The edits of a file, as the program reads it."""
     most = program.reading.limits.bytes
     try:
-        text = file.read(most + 1)
+        text = read_bytes(file, most + 1)
     except OSError:
         return EditFile(b"", [], ProgramFault("rjoin: edits: read failed"))
     if len(text) > most:
@@ -81,6 +82,18 @@ def read_edits(file: BinaryIO, program: Program) -> EditFile:
     if fault is not None and REFUSED.fullmatch(f"{fault}\n") is None:
         return EditFile(text, [], fault)
     return EditFile(text, edits_in(text), None)
+
+
+def read_bytes(file: BinaryIO, most: int) -> bytes:
+    """The bytes of a file, at most so many, in pieces: a read takes memory for all it may give."""
+    pieces = []
+    while most > 0:
+        piece = file.read(min(most, READ_AT_ONCE))
+        if not piece:
+            break
+        pieces.append(piece)
+        most -= len(piece)
+    return b"".join(pieces)
 
 
 def fault_of(

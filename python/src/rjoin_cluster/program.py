@@ -18,8 +18,7 @@ from rjoin_cluster.faults import JoinFault, ProgramFault, RunFailed
 from rjoin_cluster.reading import BOXES, Reading
 from rjoin_cluster.records import Bytes
 
-# What a run is given at most: as much as the program takes of boxes. Of other geometries it takes
-# more, which would not be faster.
+# What a run is given at most, of whichever geometries: as much as the program takes of boxes.
 MOST_FEATURES = 1_000_000
 MOST_BYTES = BOXES.bytes
 HEADER = b"id,wkt\n"
