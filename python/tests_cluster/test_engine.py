@@ -73,7 +73,10 @@ class Cluster:
         if key.startswith("check-"):
             return Future(key, lambda: self.checked(address))
         self.tried.append((address, words[-1]))
-        return Future(key, lambda: self.act(address, words[-1]), address not in self.hangs)
+        return Future(key, lambda: (self.act(address, words[-1]),), address not in self.hangs)
+
+    def ask_anew(self) -> None:
+        """Each request is one of its own."""
 
     def checked(self, address: str) -> None:
         if address in self.lacks:
@@ -83,6 +86,16 @@ class Cluster:
 @pytest.fixture(autouse=True)
 def short_looks(monkeypatch: pytest.MonkeyPatch) -> None:
     monkeypatch.setattr(engines, "LOOK_EVERY", 0.01)
+
+
+class LateFuture(Future):
+    """Its first request for the result is given up."""
+
+    was_asked = False
+
+    def result(self, timeout: float) -> Any:
+        was_asked, self.was_asked = self.was_asked, True
+        return self.value if was_asked else None
 
 
 def tasks_of(cluster: Any, jobs: Sequence[int]) -> Any:
@@ -108,6 +121,15 @@ def test_a_task_that_fails_everywhere_is_tried_four_times(addresses: Sequence[st
     assert len(cluster.tried) == 4
     first = [address for address, _ in cluster.tried[:len(addresses)]]
     assert sorted(first) == list(addresses)  # each before one of them is tried again
+
+
+def test_a_request_that_was_given_up_has_no_result(monkeypatch: pytest.MonkeyPatch) -> None:
+    """The client answers None to it, and the task is not done again."""
+    cluster = Cluster([A], lambda _, job: job)
+    tasks = tasks_of(cluster, [4, 5])
+    monkeypatch.setitem(globals(), "Future", LateFuture)
+    assert dict(tasks) == {0: 4, 1: 5}
+    assert cluster.tried == [(A, 4), (A, 5)]
 
 
 @pytest.mark.parametrize("count", [1, 2, 3, 9])

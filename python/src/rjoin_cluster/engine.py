@@ -254,8 +254,10 @@ class Tasks(Generic[Result]):
         """The result of a task, which has to be computed again where its worker is lost."""
         while True:
             try:
-                result: Result = attempt.future.result(timeout=LOOK_EVERY)
-                return result
+                held: Optional[tuple[Result]] = attempt.future.result(timeout=LOOK_EVERY)
+                if held is not None:
+                    return held[0]
+                self.workers.watch.ask_anew()
             except LOST as cause:
                 raise JoinFault("the scheduler was lost") from cause
             except Exception as cause:

@@ -39,10 +39,12 @@ def check(needs: Needs) -> None:
         raise Unfit(lack)
 
 
-def checked(needs: Needs, task: Callable[[Job], Result], job: Job) -> Result:
-    """Runs a task, where this process has what the join needs."""
+def checked(needs: Needs, task: Callable[[Job], Result], job: Job) -> tuple[Result]:
+    """Runs a task, where this process has what the join needs. Its result comes in a tuple, so that
+    None is never taken for one.
+    """
     check(needs)
-    return task(job)
+    return (task(job),)
 
 
 def lack_of(needs: Needs) -> str:

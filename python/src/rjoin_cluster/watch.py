@@ -94,6 +94,12 @@ class Watch:
                 raise
             raise JoinFault("the scheduler was lost") from cause
 
+    def ask_anew(self) -> None:
+        """Lets the client ask for results again. A request that was given up before it was sent
+        stays in the client, which then answers None, as long as others wait for that request too.
+        """
+        self.client._gather_future = self.client._gather_keys = None
+
     def note(self, workers: Workers) -> None:
         for address, worker in workers.items():
             known, seen = self.signs.get(address), float(worker["last_seen"])
