@@ -37,7 +37,8 @@ impl<'a> Unread<'a> {
     ) -> Result<(Unread<'a>, Places), ReadFault>
         // all rows of a layer's file, whose layout says how it is read: exactly the columns
         // `id,wkt`, or the columns with the given names, at the places where the header has them
-        ensures ok { IfOk result (λ opened. IsUnreadFile limits layout.entry bytes.now opened.0 opened.1) }
+        ensures ok { IfOk result (λ opened.
+            IsUnreadFile limits layout.entry bytes.now opened.0 opened.1) }
         // why it has none, unless memory is refused
         ensures err { IfErr result (λ fault. fault ≢ ReadFault.Memory
             → IsTable limits layout.entry bytes.now (Err fault)) }
@@ -74,7 +75,8 @@ fn open_rows<'a>(
     bytes: &'a [u8],
     layout: Layout<'_>,
 ) -> Result<(Unread<'a>, Places), ReadFault>
-    ensures ok { IfOk result (λ opened. IsUnreadFile limits layout.entry bytes.now opened.0 opened.1) }
+    ensures ok { IfOk result (λ opened.
+        IsUnreadFile limits layout.entry bytes.now opened.0 opened.1) }
     ensures err { IfErr result (λ fault. fault ≢ ReadFault.Memory
         → IsTable limits layout.entry bytes.now (Err fault)) }
     ensures no_io { result ≢ Err ReadFault.Io }

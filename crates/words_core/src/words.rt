@@ -216,11 +216,11 @@ pub fn read_words<'a>(alloc: Global, words: &'a [&'a str]) -> Result<Command<'a>
     // have, which is help exactly where help or the version is asked for; otherwise the first fault
     // in the order options of a join that exclude each other, arguments, two files at `-`, a list
     // of skipped rows at `-` or at the path of another file of the command, `--delimiter` or that
-    // of a side, which stands in its place, relation, whether it holds for disjoint geometries of the kind that the words name, the three
-    // numbers, scale, `--distance`, `--most`, `--geometry`, `--rings`. The scale has the limits of
-    // any geometry where `--geometry any` is given, and else those of boxes. A distance is the
-    // value of its whole word by the grammar of numbers at the scale; a word that spells none is a
-    // fault. No other comes but out of memory
+    // of a side, which stands in its place, relation, whether it holds for disjoint geometries of
+    // the kind that the words name, the three numbers, scale, `--distance`, `--most`, `--geometry`,
+    // `--rings`. The scale has the limits of any geometry where `--geometry any` is given, and else
+    // those of boxes. A distance is the value of its whole word by the grammar of numbers at the
+    // scale; a word that spells none is a fault. No other comes but out of memory
     ensures { ReadAs (map (λ word. word.now) words.now) result }
 {
     let program = usage_of(alloc, words)?;
