@@ -727,7 +727,7 @@ for outer, inner, limit in (
         (holed, "(10,30;10,38;90,38;90,30)", 3), (square, "(10,50;50,80;50,20)", 11)):
     print(regions.enclosing(outer, area(inner), limit))
 source, found = random.Random(5), [[0, 0, 0], [0, 0, 0]]
-for number in range(60):
+for number in range(160):
     upright = number % 2
     sizes = (90, 25) if upright else (110, 12)
     outer, inner = (made(source, size, upright) for size in sizes)
@@ -741,7 +741,7 @@ for number in range(60):
                 found[upright][1] += theirs and not ours
                 found[upright][2] += ours and not theirs
 print(found[1][0] > 9, *found[1][1:])
-print(found[0][1])
+print(found[0][0] > 9, found[0][1])
 """
 
 
@@ -756,7 +756,7 @@ def test_enclosures(klayout: Any, tmp_path: Path) -> None:
     assert ended.stdout.splitlines() == [
         "", "(0,20;0,40)/(10,40;10,20)", "(0,20;0,40)/(0,40;0,20)", "",
         "(40,40;60,40)/(60,38;40,38)", "(0,50;0,50)/(10,50;10,50)",
-        "True 0 0", "0"], ended.stderr
+        "True 0 0", "True 0"], ended.stderr
 
 
 def test_an_enclosure_is_of_two_layers(klayout: Any, boxes: Path, tmp_path: Path) -> None:

@@ -63,6 +63,7 @@ class Cluster:
         self.lacks: dict[str, Exception] = {}
         self.patience = 1.0
         self.looks = 0
+        self.asked_anew = 0
 
     def look(self) -> bool:
         self.looks += 1
@@ -76,7 +77,7 @@ class Cluster:
         return Future(key, lambda: (self.act(address, words[-1]),), address not in self.hangs)
 
     def ask_anew(self) -> None:
-        """Each request is one of its own."""
+        self.asked_anew += 1
 
     def checked(self, address: str) -> None:
         if address in self.lacks:
@@ -129,7 +130,7 @@ def test_a_request_that_was_given_up_has_no_result(monkeypatch: pytest.MonkeyPat
     tasks = tasks_of(cluster, [4, 5])
     monkeypatch.setitem(globals(), "Future", LateFuture)
     assert dict(tasks) == {0: 4, 1: 5}
-    assert cluster.tried == [(A, 4), (A, 5)]
+    assert (cluster.tried, cluster.asked_anew) == ([(A, 4), (A, 5)], 2)
 
 
 @pytest.mark.parametrize("count", [1, 2, 3, 9])
