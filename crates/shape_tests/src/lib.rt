@@ -4,6 +4,8 @@
 #![tactic(auto)]
 
 #[cfg(test)]
+mod binary_doubles;
+#[cfg(test)]
 mod binary_readings;
 #[cfg(test)]
 mod distance_shapes;
